@@ -16,11 +16,11 @@ fn needs_equal_clones<T: Clone>(value: &T) -> Result<T, AllocError>
 }
 
 // Whether what that call gives is equal. It has the same condition.
-fn is_equal_clone<T: Clone + PartialEq + Drop>(value: &T) -> bool
+fn is_equal_clone<T: Clone + PartialEq + Drop>(value: T) -> bool
     requires { (x y : T) → T.is_clone x y → y ≡ x }
 {
-    match needs_equal_clones(value) {
-        Ok(copy) => copy == *value,
+    match needs_equal_clones(&value) {
+        Ok(copy) => copy == value,
         Err(_) => false,
     }
 }
@@ -29,25 +29,31 @@ fn color(alloc: Global) -> Result<ANSIBuf, AllocError> {
     ANSIBuf::new(alloc, "<", ">")
 }
 
-fn are_colours_equal(alloc: Global) -> bool {
-    let Ok(color) = color(alloc) else {
-        return false;
-    };
-    let is_equal = is_equal_clone(&color);
-    let sides = Sides::new(None, None, None, Some(color));
-    is_equal_clone(&sides) && is_equal
+fn is_colour_equal(alloc: Global) -> bool {
+    match color(alloc) {
+        Ok(color) => is_equal_clone(color),
+        Err(_) => false,
+    }
+}
+
+fn are_sides_equal(alloc: Global) -> bool {
+    match color(alloc) {
+        Ok(color) => is_equal_clone(Sides::new(None, None, None, Some(color))),
+        Err(_) => false,
+    }
 }
 
 #[test]
 fn equal_clones(rt: HostRuntime) {
-    assert!(rt; are_colours_equal(rt.alloc()));
-    assert!(rt; is_equal_clone(&Sides::filled(Indent::zero())));
+    assert!(rt; is_colour_equal(rt.alloc()));
+    assert!(rt; are_sides_equal(rt.alloc()));
+    assert!(rt; is_equal_clone(Sides::filled(Indent::zero())));
 }
 
 fn is_border_equal(alloc: Global) -> bool {
     laws::equal_clones::<ANSIBuf>();
     match color(alloc) {
-        Ok(color) => is_equal_clone(&Border {
+        Ok(color) => is_equal_clone(Border {
             top: Some(color),
             ..Border::empty()
         }),
@@ -58,7 +64,7 @@ fn is_border_equal(alloc: Global) -> bool {
 fn is_frame_equal(alloc: Global) -> bool {
     laws::equal_clones::<ANSIBuf>();
     match color(alloc) {
-        Ok(color) => is_equal_clone(&Borders {
+        Ok(color) => is_equal_clone(Borders {
             top: Some(color),
             ..Borders::empty()
         }),
@@ -74,7 +80,7 @@ fn equal_clones_of_borders(rt: HostRuntime) {
 
 fn is_line_equal(alloc: Global) -> bool {
     match color(alloc) {
-        Ok(color) => is_equal_clone(&HorizontalLine::new(Some(color), None, None, None)),
+        Ok(color) => is_equal_clone(HorizontalLine::new(Some(color), None, None, None)),
         Err(_) => false,
     }
 }
@@ -82,5 +88,5 @@ fn is_line_equal(alloc: Global) -> bool {
 #[test]
 fn equal_clones_of_lines(rt: HostRuntime) {
     assert!(rt; is_line_equal(rt.alloc()));
-    assert!(rt; is_equal_clone(&VerticalLine::filled('x')));
+    assert!(rt; is_equal_clone(VerticalLine::filled('x')));
 }

@@ -23,6 +23,14 @@ fn seen<C: Colors>(colors: &C, position: Position) -> (bool, Option<&C::Color>)
     (colors.is_empty(), colors.get_color(position))
 }
 
+// Whether that is seen of colours at a position.
+fn is_seen<C: Colors>(colors: &C, position: Position, expected: (bool, Option<&C::Color>)) -> bool
+where
+    C::Color: PartialEq,
+{
+    seen(colors, position) == expected
+}
+
 // What a colour writes before a text and after it.
 fn written<C: ANSIFmt>(alloc: Global, color: &C) -> Result<String, fmt::Error> {
     let mut text = String::new(alloc);
@@ -168,15 +176,15 @@ fn owned_colours_by_entity(rt: HostRuntime) {
 fn are_seen_by_entity(alloc: Global) -> bool {
     let (red, blue) = (ANSIStr::new("r", "R"), ANSIStr::new("b", "B"));
     let mut colors = EntityMap::new(alloc, Some(red));
-    seen(&colors, at(0, 0)) == (false, Some(&red))
+    is_seen(&colors, at(0, 0), (false, Some(&red)))
         && colors.insert(Entity::Column(1), None).is_ok()
         && colors.insert(Entity::Row(2), Some(blue)).is_ok()
-        && seen(&&colors, at(0, 1)) == (false, None)
-        && seen(&&colors, at(2, 1)) == (false, Some(&blue))
+        && is_seen(&&colors, at(0, 1), (false, None))
+        && is_seen(&&colors, at(2, 1), (false, Some(&blue)))
         && colors.insert(Entity::Global, None).is_ok()
-        && seen(&&colors, at(2, 1)) == (true, None)
+        && is_seen(&&colors, at(2, 1), (true, None))
         && colors.insert(Entity::Column(1), None).is_ok()
-        && seen(&colors, at(2, 1)) == (false, None)
+        && is_seen(&colors, at(2, 1), (false, None))
 }
 
 #[test]
@@ -198,16 +206,16 @@ fn is_red_hashed(alloc: Global) -> bool {
     let (mut colors, red) = (HashMap::new(alloc), red());
     has_none(&colors)
         && colors.insert(at(0, 1), red).is_ok()
-        && seen(&colors, at(0, 1)) == (false, Some(&red))
-        && seen(&colors, at(1, 0)) == (false, None)
+        && is_seen(&colors, at(0, 1), (false, Some(&red)))
+        && is_seen(&colors, at(1, 0), (false, None))
 }
 
 fn is_red_ordered(alloc: Global) -> bool {
     let (mut colors, red) = (BTreeMap::new(alloc), red());
     has_none(&colors)
         && colors.insert(at(0, 1), red).is_ok()
-        && seen(&&colors, at(0, 1)) == (false, Some(&red))
-        && seen(&&colors, at(1, 0)) == (false, None)
+        && is_seen(&&colors, at(0, 1), (false, Some(&red)))
+        && is_seen(&&colors, at(1, 0), (false, None))
 }
 
 #[test]
@@ -215,13 +223,13 @@ fn colours_by_position(rt: HostRuntime) {
     let (everywhere, red) = (Everywhere { color: red() }, red());
     assert!(rt; is_red_hashed(rt.alloc()));
     assert!(rt; is_red_ordered(rt.alloc()));
-    assert!(rt; seen(&&everywhere, at(7, 8)) == (false, Some(&red)));
+    assert!(rt; is_seen(&&everywhere, at(7, 8), (false, Some(&red))));
 }
 
 #[test]
 fn no_colours(rt: HostRuntime) {
     assert!(rt;
-        seen(&&NoColors, at(0, 0)) == (true, None)
+        is_seen(&&NoColors, at(0, 0), (true, None))
             && is_written(rt.alloc(), &NoColor, "|")
             && is_written(rt.alloc(), &&NoColor, "|")
     );

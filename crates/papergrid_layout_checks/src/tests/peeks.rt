@@ -67,7 +67,16 @@ fn are_exact<R: PeekableRecords>(records: &R) -> bool
         && peek(records, Position::new(0, 1), 1) == ("xyz", 2, 9, "bc", 2)
 }
 
-// Records answer the same themselves, through a reference, and through one to a reference.
+/// Whether records answer so themselves, through a reference, and through one to a reference.
+fn are_exact_through<R: PeekableRecords>(records: &R) -> bool
+    requires first { R.has records.now (record { row = 0; col = 0 }) }
+    requires line { R.has_line records.now (record { row = 0; col = 0 }) 0 }
+    requires second { R.has records.now (record { row = 0; col = 1 }) }
+    requires second_line { R.has_line records.now (record { row = 0; col = 1 }) 1 }
+{
+    are_exact(records) && are_exact(&records) && are_exact(&&records)
+}
+
 fn are_exact_cells(alloc: Global) -> Result<bool, AllocError> {
     let first = Text::exact("ab", 7, Vec::new(alloc));
     let second = Text::exact("xyz", 9, given_lines(alloc)?);
@@ -75,9 +84,7 @@ fn are_exact_cells(alloc: Global) -> Result<bool, AllocError> {
     Ok(
         PeekableRecords::count_lines(&records, Position::new(0, 0)) == 1
             && PeekableRecords::count_lines(&records, Position::new(0, 1)) == 2
-            && are_exact(&records)
-            && are_exact(&&records)
-            && are_exact(&&&records),
+            && are_exact_through(&records),
     )
 }
 

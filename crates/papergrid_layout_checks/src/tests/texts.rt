@@ -103,19 +103,18 @@ fn exact(alloc: Global, lines: Vec<StrWithWidth<'static>>) -> Result<Text<String
     Ok(Text::exact(String::from_str(alloc, "a\nbc")?, 2, lines))
 }
 
-fn are_alike(text: &Text<String>, other: &Text<String>) -> bool {
-    text == other && text.cmp(other) == Ordering::Equal && hash_of(text) == hash_of(other)
+fn are_alike<T: Hash + Ord + Drop>(text: &T, other: T) -> bool {
+    *text == other && text.cmp(&other) == Ordering::Equal && hash_of(text) == hash_of(&other)
 }
 
-fn is_less(text: &Text<String>, other: &Text<String>) -> bool {
-    text < other && text != other
+fn is_less<T: PartialOrd + Drop>(text: T, other: &T) -> bool {
+    text < *other && text != *other
 }
 
 fn is_new_exact(alloc: Global) -> Result<bool, AllocError> {
     let first = measured(alloc)?;
-    let given = exact(alloc, given_lines(alloc)?)?;
-    let fewer = exact(alloc, Vec::new(alloc))?;
-    Ok(are_alike(&first, &given) && is_less(&fewer, &first))
+    let is_alike = are_alike(&first, exact(alloc, given_lines(alloc)?)?);
+    Ok(is_less(exact(alloc, Vec::new(alloc))?, &first) && is_alike)
 }
 
 #[test]
