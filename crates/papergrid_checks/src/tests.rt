@@ -80,14 +80,21 @@ fn rows(alloc: Global) -> Result<Vec<Vec<&'static str>>, AllocError> {
     rows_of(alloc, &[&["one", "two", "three"], &["four", "five", "six"]])
 }
 
-/// The first cell spans two columns and hides the second one; each text has two blanks beside it.
-fn are_right(found: Result<(Vec<usize>, Vec<usize>), LayoutError>) -> bool {
+/// Whether these widths and heights were found.
+fn are_sizes(
+    found: Result<(Vec<usize>, Vec<usize>), LayoutError>,
+    widths: &[usize],
+    heights: &[usize],
+) -> bool {
     match found {
-        Ok((widths, heights)) => {
-            widths.as_slice() == [6, 6, 7].as_slice() && heights.as_slice() == [1, 1].as_slice()
-        }
+        Ok(sizes) => sizes.0.as_slice() == widths && sizes.1.as_slice() == heights,
         Err(_) => false,
     }
+}
+
+/// The first cell spans two columns and hides the second one; each text has two blanks beside it.
+fn are_right(found: Result<(Vec<usize>, Vec<usize>), LayoutError>) -> bool {
+    are_sizes(found, &[6, 6, 7], &[1, 1])
 }
 
 fn has_sizes(alloc: Global, config: &SpannedConfig) -> bool {

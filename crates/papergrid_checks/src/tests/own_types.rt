@@ -2,6 +2,7 @@
 
 use crate::cells::{Person, of_people};
 use crate::entries::{Entry, of_entries};
+use crate::tests::are_sizes;
 use papergrid::config::spanned::SpannedConfig;
 use std::alloc::{AllocError, Global};
 
@@ -22,12 +23,7 @@ fn has_sizes_of_entries(alloc: Global) -> bool {
     let config = SpannedConfig::new(alloc);
     let found = of_entries(alloc, &entries, &config);
     drop(config);
-    match found {
-        Ok((widths, heights)) => {
-            widths.as_slice() == [3, 4].as_slice() && heights.as_slice() == [2].as_slice()
-        }
-        Err(_) => false,
-    }
+    are_sizes(found, &[3, 4], &[2])
 }
 
 /// A row of one person.

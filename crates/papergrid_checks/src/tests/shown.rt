@@ -6,7 +6,7 @@ use crate::dimensions::{of_compact, of_crossing, of_measured};
 use crate::drawn::two_rows;
 use crate::entities::marks;
 use crate::picture::second_cell;
-use crate::tests::{measured_rows, rows_of};
+use crate::tests::{are_sizes, measured_rows, rows_of};
 use papergrid::ansi::ANSIBuf;
 use papergrid::colors::Colors;
 use papergrid::config::spanned::SpannedConfig;
@@ -140,12 +140,7 @@ fn has_sizes_of_measured(alloc: Global) -> bool {
     let config = SpannedConfig::new(alloc);
     let found = of_measured(alloc, &records, &config);
     drop(config);
-    match found {
-        Ok((widths, heights)) => {
-            widths.as_slice() == [5].as_slice() && heights.as_slice() == [2].as_slice()
-        }
-        Err(_) => false,
-    }
+    are_sizes(found, &[5], &[2])
 }
 
 #[test]
