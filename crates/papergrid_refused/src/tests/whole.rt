@@ -86,21 +86,31 @@ fn end_of(alloc: Global, it: Case, written: &mut Vec<u8>) -> Result<RunEnd, RunF
     }
 }
 
+/// What a test ends with by the end of a run, and by what it wrote: the whole output, or what it may where an
+/// allocation failed.
+fn run_says(
+    rt: &impl Abort,
+    call: CallNumber,
+    end: Result<RunEnd, RunFault>,
+    (written, output): (&[u8], &str),
+    is_allowed: bool,
+) -> Result<(), Fail> {
+    if end == Err(RunFault::Memory) {
+        assert!(rt; is_allowed);
+        return says(call, Err::<(), AllocError>(AllocError));
+    }
+    assert_eq!(rt; end, Ok(RunEnd::Done));
+    assert_eq!(rt; written, output.as_bytes());
+    Ok(())
+}
+
 /// What a test ends with that runs into a buffer, which has room for the output and asks for no
 /// more: the whole output is written, or nothing where an allocation failed.
 fn runs(rt: &(impl Abort + AllocGlobal), call: CallNumber, it: Case) -> Result<(), Fail> {
     let mut written: Vec<u8> = Vec::with_capacity(rt.alloc(), 1000)?;
-    match end_of(rt.alloc(), it, &mut written) {
-        Err(RunFault::Memory) => {
-            assert!(rt; written.is_empty());
-            says(call, Err::<(), AllocError>(AllocError))
-        }
-        end => {
-            assert_eq!(rt; end, Ok(RunEnd::Done));
-            assert_eq!(rt; written.as_slice(), it.output.as_bytes());
-            Ok(())
-        }
-    }
+    let end = end_of(rt.alloc(), it, &mut written);
+    let is_empty = written.is_empty();
+    run_says(rt, call, end, (written.as_slice(), it.output), is_empty)
 }
 
 #[test]
@@ -117,22 +127,23 @@ fn each_run(rt: HostRuntime) -> Result<(), Fail> {
 const DRAWN: &str =
     "+++++++++++++++++++++++++++++++++++++++++++++++++++\n+                 +is a library+for print tables+!+\n+    Papergrid    +++++++++++++++++++++++++++++++++\n+                 +Just like this                 +\n+++++++++++++++++++++++++++++++++++++++++++++++++++\n";
 
+fn end_of_table(alloc: Global, written: &mut Vec<u8>) -> Result<RunEnd, RunFault> {
+    let (mut reader, mut writer) = (ReadSource::new(PICTURE), WriteSink::new(written));
+    let mut script = Vec::new(alloc);
+    run_table(
+        alloc,
+        Sizing::ByShares,
+        &mut reader,
+        &mut writer,
+        &mut script,
+    )
+}
+
 /// The buffer has room for the lines: all of them are written, or a beginning where an allocation failed.
 #[test]
 fn table_of_picture(rt: HostRuntime) -> Result<(), Fail> {
     let mut written: Vec<u8> = Vec::with_capacity(rt.alloc(), 1000)?;
-    let mut script = Vec::new(rt.alloc());
-    let (mut reader, mut writer) = (ReadSource::new(PICTURE), WriteSink::new(&mut written));
-    let by_shares = Sizing::ByShares;
-    match run_table(rt.alloc(), by_shares, &mut reader, &mut writer, &mut script) {
-        Err(RunFault::Memory) => {
-            assert!(rt; DRAWN.as_bytes().starts_with(written.as_slice()));
-            says(only(), Err::<(), AllocError>(AllocError))
-        }
-        end => {
-            assert_eq!(rt; end, Ok(RunEnd::Done));
-            assert_eq!(rt; written.as_slice(), DRAWN.as_bytes());
-            Ok(())
-        }
-    }
+    let end = end_of_table(rt.alloc(), &mut written);
+    let is_beginning = DRAWN.as_bytes().starts_with(written.as_slice());
+    run_says(&rt, only(), end, (written.as_slice(), DRAWN), is_beginning)
 }
