@@ -60,19 +60,20 @@ fn keeps<T: PartialEq + Drop, A: Drop>(
     says(call, answer)
 }
 
-/// A value, and its clone.
-fn with_clone<T: Clone + Drop>(value: T) -> Result<(T, T), AllocError> {
+/// A value that is made, and its clone.
+fn with_clone<T: Clone + Drop>(made: Result<T, AllocError>) -> Result<(T, T), AllocError> {
+    let value = made?;
     let copy = value.clone()?;
     Ok((value, copy))
 }
 
-/// What a test ends with that clones a value.
+/// What a test ends with that clones a value, which is made for it.
 fn clones<T: Clone + PartialEq + Drop>(
     rt: &impl Abort,
     call: CallNumber,
-    value: T,
+    made: Result<T, AllocError>,
 ) -> Result<(), Fail> {
-    let (value, before) = with_clone(value)?;
+    let (value, before) = with_clone(made)?;
     let copy: Result<T, AllocError> = value.clone();
     keeps(rt, call, value, before, copy)
 }

@@ -12,7 +12,7 @@ fn colors(rt: HostRuntime) -> Result<(), Fail> {
     let color = color(alloc)?;
     says(call(2, 4), ANSIBuf::copy_of(alloc, color.as_ref()))?;
     says(call(3, 4), Border::filled(&color).cloned())?;
-    clones(&rt, call(4, 4), color)
+    clones(&rt, call(4, 4), Ok(color))
 }
 
 fn two(alloc: Global) -> Result<(Option<ANSIBuf>, Option<ANSIBuf>), AllocError> {
@@ -27,20 +27,32 @@ fn frame(alloc: Global) -> Result<Borders<ANSIBuf>, AllocError> {
     Ok(frame)
 }
 
+fn sides(alloc: Global) -> Result<Sides<Option<ANSIBuf>>, AllocError> {
+    let (left, top) = two(alloc)?;
+    Ok(Sides::new(left, None, top, None))
+}
+
+fn border(alloc: Global) -> Result<Border<ANSIBuf>, AllocError> {
+    Border::filled(&color(alloc)?).cloned()
+}
+
+fn horizontal_line(alloc: Global) -> Result<HorizontalLine<ANSIBuf>, AllocError> {
+    let (main, right) = two(alloc)?;
+    Ok(HorizontalLine::new(main, None, None, right))
+}
+
+fn vertical_line(alloc: Global) -> Result<VerticalLine<ANSIBuf>, AllocError> {
+    let (main, bottom) = two(alloc)?;
+    Ok(VerticalLine::new(main, None, None, bottom))
+}
+
 /// Clones of what is made of two colours.
 #[test]
 fn of_two(rt: HostRuntime) -> Result<(), Fail> {
     let alloc = rt.alloc();
-    let (left, top) = two(alloc)?;
-    clones(&rt, call(1, 5), Sides::new(left, None, top, None))?;
-    clones(&rt, call(2, 5), Border::filled(&color(alloc)?).cloned()?)?;
-    clones(&rt, call(3, 5), frame(alloc)?)?;
-    let (main, right) = two(alloc)?;
-    clones(
-        &rt,
-        call(4, 5),
-        HorizontalLine::new(main, None, None, right),
-    )?;
-    let (main, bottom) = two(alloc)?;
-    clones(&rt, call(5, 5), VerticalLine::new(main, None, None, bottom))
+    clones(&rt, call(1, 5), sides(alloc))?;
+    clones(&rt, call(2, 5), border(alloc))?;
+    clones(&rt, call(3, 5), frame(alloc))?;
+    clones(&rt, call(4, 5), horizontal_line(alloc))?;
+    clones(&rt, call(5, 5), vertical_line(alloc))
 }

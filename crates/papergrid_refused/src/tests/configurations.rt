@@ -10,7 +10,7 @@ use std::test::Fail;
 
 /// A configuration that holds one of each setting, and its clone.
 fn full_twice(alloc: Global) -> Result<(SpannedConfig, SpannedConfig), AllocError> {
-    with_clone(full(alloc)?)
+    with_clone(full(alloc))
 }
 
 /// What a test ends with that applies a setting to a configuration that holds one of each.
@@ -119,7 +119,7 @@ fn from_compact(rt: HostRuntime) -> Result<(), Fail> {
 
 #[test]
 fn clone(rt: HostRuntime) -> Result<(), Fail> {
-    clones(&rt, only(), full(rt.alloc())?)
+    clones(&rt, only(), full(rt.alloc()))
 }
 
 #[test]

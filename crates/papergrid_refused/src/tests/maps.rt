@@ -18,7 +18,7 @@ fn three_rows(alloc: Global) -> Result<EntityMap<char>, AllocError> {
 
 /// What a test ends with that sets one more value.
 fn inserts(rt: &(impl Abort + AllocGlobal), call: CallNumber, entity: Entity) -> Result<(), Fail> {
-    let (mut map, before) = with_clone(three_rows(rt.alloc())?)?;
+    let (mut map, before) = with_clone(three_rows(rt.alloc()))?;
     let answer = map.insert(entity, 'n');
     keeps(rt, call, map, before, answer)
 }
@@ -34,7 +34,7 @@ fn reads(rt: HostRuntime) -> Result<(), Fail> {
     let map = three_rows(rt.alloc())?;
     says(call(1, 3), map.held_cells())?;
     says(call(2, 3), map.into_map())?;
-    clones(&rt, call(3, 3), three_rows(rt.alloc())?)
+    clones(&rt, call(3, 3), three_rows(rt.alloc()))
 }
 
 fn ten_calls(alloc: Global) -> Result<Vec<MapCall<char>>, AllocError> {

@@ -37,7 +37,7 @@ pub fn settings(alloc: Global) -> Result<Vec<Setting>, AllocError> {
 }
 
 /// An answer that can be no other error than out of memory.
-pub fn in_table<A>(rt: &impl Abort, answer: Result<A, LayoutError>) -> Result<A, AllocError> {
+fn in_table<A>(rt: &impl Abort, answer: Result<A, LayoutError>) -> Result<A, AllocError> {
     match answer {
         Ok(answer) => Ok(answer),
         Err(LayoutError::Memory(error)) => Err(error),
@@ -55,7 +55,7 @@ fn config(alloc: Global) -> Result<SpannedConfig, AllocError> {
 }
 
 /// What a test ends with by the answer of a call on the picture.
-fn answers<A: Drop>(
+pub fn answers<A: Drop>(
     rt: &impl Abort,
     call: CallNumber,
     answer: Result<A, LayoutError>,
@@ -184,12 +184,12 @@ fn estimates<C, D: Estimate<VecRecords<&'static str>, C> + Clone + PartialEq + D
     requires { (records : VecRecords (Bor (List ℕ))) → D.accepts records }
 {
     let records = records(rt.alloc())?;
-    let (mut dimension, before) = with_clone(sized(rt, dimension, config)?)?;
+    let (mut dimension, before) = with_clone(sized(rt, dimension, config))?;
     let answer = dimension.estimate(records, config);
     assert!(rt; answer.is_ok() || dimension == before);
     answers(rt, call(1, 2), answer)?;
     drop(before);
-    clones(rt, call(2, 2), dimension)
+    clones(rt, call(2, 2), Ok(dimension))
 }
 
 /// The same by the settings of the picture.

@@ -35,16 +35,20 @@ fn texts(rt: HostRuntime) -> Result<(), Fail> {
     let alloc = rt.alloc();
     says(call(1, 5), Text::new(alloc, "a\nbc\nd"))?;
     says(call(2, 5), replace_tab(alloc, "a\tb\\\tcdefgh", 7))?;
-    clones(&rt, call(3, 5), three_lines(alloc)?)?;
-    clones(&rt, call(4, 5), exact(alloc)?)?;
-    clones(&rt, call(5, 5), owned_line(alloc)?)
+    clones(&rt, call(3, 5), three_lines(alloc))?;
+    clones(&rt, call(4, 5), exact(alloc))?;
+    clones(&rt, call(5, 5), owned_line(alloc))
 }
 
 #[test]
 fn records(rt: HostRuntime) -> Result<(), Fail> {
     let alloc = rt.alloc();
-    clones(&rt, call(1, 3), VecRecords::new(rows(alloc)?))?;
-    clones(&rt, call(2, 3), IterRecords::new(rows(alloc)?, 2, Some(2)))?;
+    clones(&rt, call(1, 3), Ok(VecRecords::new(rows(alloc)?)))?;
+    clones(
+        &rt,
+        call(2, 3),
+        Ok(IterRecords::new(rows(alloc)?, 2, Some(2))),
+    )?;
     let walked = RowIter::new(rows(alloc)?.into_iter());
     says(call(3, 3), walked.clone())
 }

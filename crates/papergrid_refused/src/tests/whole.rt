@@ -3,7 +3,7 @@
 ghost use Rattle.std.specs.Prelude.{◌≡◌, All, IfOk, true};
 ghost use Rattle.papergrid_config.specs.Applied.{is_in_range};
 
-use super::sizes::{in_table, rows, settings};
+use super::sizes::{answers, rows, settings};
 use super::{CallNumber, call, only, says};
 use papergrid::records::vec_records::VecRecords;
 use papergrid::{
@@ -35,10 +35,10 @@ fn picture(
 fn layouts(rt: HostRuntime) -> Result<(), Fail> {
     let (settings, records) = picture(&rt)?;
     let by_shares = layout(rt.alloc(), settings, records);
-    says(call(1, 2), in_table(&rt, by_shares))?;
+    answers(&rt, call(1, 2), by_shares)?;
     let (settings, records) = picture(&rt)?;
     let least = layout_least(rt.alloc(), settings, records);
-    says(call(2, 2), in_table(&rt, least))
+    answers(&rt, call(2, 2), least)
 }
 
 /// The picture has sizes, and to know that allocates.
@@ -92,10 +92,11 @@ fn run_says(
     rt: &impl Abort,
     call: CallNumber,
     end: Result<RunEnd, RunFault>,
-    (written, output): (&[u8], &str),
+    written: &[u8],
+    output: &str,
     is_allowed: bool,
 ) -> Result<(), Fail> {
-    if end == Err(RunFault::Memory) {
+    if let Err(RunFault::Memory) = end {
         assert!(rt; is_allowed);
         return says(call, Err::<(), AllocError>(AllocError));
     }
@@ -110,7 +111,7 @@ fn runs(rt: &(impl Abort + AllocGlobal), call: CallNumber, it: Case) -> Result<(
     let mut written: Vec<u8> = Vec::with_capacity(rt.alloc(), 1000)?;
     let end = end_of(rt.alloc(), it, &mut written);
     let is_empty = written.is_empty();
-    run_says(rt, call, end, (written.as_slice(), it.output), is_empty)
+    run_says(rt, call, end, written.as_slice(), it.output, is_empty)
 }
 
 #[test]
@@ -145,5 +146,5 @@ fn table_of_picture(rt: HostRuntime) -> Result<(), Fail> {
     let mut written: Vec<u8> = Vec::with_capacity(rt.alloc(), 1000)?;
     let end = end_of_table(rt.alloc(), &mut written);
     let is_beginning = DRAWN.as_bytes().starts_with(written.as_slice());
-    run_says(&rt, only(), end, (written.as_slice(), DRAWN), is_beginning)
+    run_says(&rt, only(), end, written.as_slice(), DRAWN, is_beginning)
 }
