@@ -37,7 +37,7 @@ pub fn settings(alloc: Global) -> Result<Vec<Setting>, AllocError> {
 }
 
 /// An answer that can be no other error than out of memory.
-fn in_table<A>(rt: &impl Abort, answer: Result<A, LayoutError>) -> Result<A, AllocError> {
+pub fn in_table<A>(rt: &impl Abort, answer: Result<A, LayoutError>) -> Result<A, AllocError> {
     match answer {
         Ok(answer) => Ok(answer),
         Err(LayoutError::Memory(error)) => Err(error),
@@ -55,7 +55,7 @@ fn config(alloc: Global) -> Result<SpannedConfig, AllocError> {
 }
 
 /// What a test ends with by the answer of a call on the picture.
-pub fn answers<A: Drop>(
+fn answers<A: Drop>(
     rt: &impl Abort,
     call: CallNumber,
     answer: Result<A, LayoutError>,

@@ -18,8 +18,13 @@ fn insert_borders(table: &mut BorderTable<char>) -> Result<(), AllocError> {
 
 fn two_borders(alloc: Global) -> Result<BorderTable<char>, AllocError> {
     let mut table = BorderTable::new(alloc);
-    insert_borders(&mut table)?;
-    Ok(table)
+    match insert_borders(&mut table) {
+        Ok(()) => Ok(table),
+        Err(error) => {
+            drop(table);
+            Err(error)
+        }
+    }
 }
 
 #[test]

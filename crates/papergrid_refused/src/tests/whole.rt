@@ -3,7 +3,7 @@
 ghost use Rattle.std.specs.Prelude.{◌≡◌, All, IfOk, true};
 ghost use Rattle.papergrid_config.specs.Applied.{is_in_range};
 
-use super::sizes::{answers, rows, settings};
+use super::sizes::{in_table, rows, settings};
 use super::{CallNumber, call, only, says};
 use papergrid::records::vec_records::VecRecords;
 use papergrid::{
@@ -35,10 +35,10 @@ fn picture(
 fn layouts(rt: HostRuntime) -> Result<(), Fail> {
     let (settings, records) = picture(&rt)?;
     let by_shares = layout(rt.alloc(), settings, records);
-    answers(&rt, call(1, 2), by_shares)?;
+    says(call(1, 2), in_table(&rt, by_shares))?;
     let (settings, records) = picture(&rt)?;
     let least = layout_least(rt.alloc(), settings, records);
-    answers(&rt, call(2, 2), least)
+    says(call(2, 2), in_table(&rt, least))
 }
 
 /// The picture has sizes, and to know that allocates.
