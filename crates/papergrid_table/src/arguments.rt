@@ -74,11 +74,8 @@ struct Draft {
     fits: bool,
     /// An option that a script or a document does not take.
     of_fields: Option<&'static str>,
-    request: Request,
-    width: Option<usize>,
-    witness: bool,
-    check: Option<String>,
-    explains_json: bool,
+    /// What they ask for. Its kind and its lines are chosen at the end.
+    wanted: Wanted,
 }
 
 /// What the words after the program's name ask for, of which input or of the program itself, and how: options in any
@@ -97,11 +94,14 @@ pub fn asked_for(alloc: Global, words: Args) -> Result<(Asked, Wanted), Misuse>
         pad: None,
         fits: false,
         of_fields: None,
-        request: Request::in_style(alloc, Style::Rounded),
-        width: None,
-        witness: false,
-        check: None,
-        explains_json: false,
+        wanted: Wanted {
+            kind: Kind::Csv,
+            request: Request::in_style(alloc, Style::Rounded),
+            width: None,
+            witness: false,
+            check: None,
+            explains_json: false,
+        },
     };
     let mut before = None;
     for word in words {
@@ -118,6 +118,22 @@ fn lacks_value(alloc: Global, option: &Listed) -> Result<Misuse, AllocError> {
     let name = option.name;
     let value = option.value.unwrap_or("a value");
     Ok(Misuse::Said(format!(in alloc; "{name}: no value follows; it takes {value}")?))
+}
+
+/// What is said of a word that is no value of the option.
+fn no_value(alloc: Global, option: &Listed, word: &str) -> Result<String, AllocError> {
+    let name = option.name;
+    let takes = option.value.unwrap_or("a value");
+    let last = match word.rsplit_once('=') {
+        Some((_, last)) => last,
+        None => word,
+    };
+    let like = name_like(alloc, last, values_of(option.choice))?;
+    let written = shown(alloc, word)?;
+    match like {
+        Some(like) => format!(in alloc; "{name} {written}: not {takes}; did you mean {like}?"),
+        None => format!(in alloc; "{name} {written}: not {takes}"),
+    }
 }
 
 impl Draft {
@@ -168,7 +184,7 @@ impl Draft {
 
     /// Takes an option without a value.
     fn switch(&mut self, choice: Choice) {
-        let request = &mut self.request;
+        let request = &mut self.wanted.request;
         match choice {
             Choice::Csv => self.kind = Some(Kind::Csv),
             Choice::Tsv => self.kind = Some(Kind::Tsv),
@@ -181,8 +197,8 @@ impl Draft {
             Choice::Raw => request.reading.raw = true,
             Choice::Strict => request.reading.strict = true,
             Choice::Least => request.sizing = Sizing::Least,
-            Choice::Witness => self.witness = true,
-            Choice::HelpJson => self.explains_json = true,
+            Choice::Witness => self.wanted.witness = true,
+            Choice::HelpJson => self.wanted.explains_json = true,
             Choice::FitCrossings => self.fits = true,
             _ => {}
         }
@@ -193,37 +209,24 @@ impl Draft {
         if self.takes(option.choice, value)? {
             return Ok(());
         }
-        let alloc = self.alloc;
-        let name = option.name;
-        let takes = option.value.unwrap_or("a value");
-        let written = shown(alloc, value)?;
-        let last = match value.rsplit_once('=') {
-            Some((_, last)) => last,
-            None => value,
-        };
-        let names = values_of(option.choice);
-        let text = match name_like(alloc, last, names)? {
-            Some(like) => format!(in alloc; "{name} {written}: not {takes}; did you mean {like}?")?,
-            None => format!(in alloc; "{name} {written}: not {takes}")?,
-        };
-        Err(Misuse::Said(text))
+        Err(Misuse::Said(no_value(self.alloc, option, value)?))
     }
 
     /// Takes the value of an option; false where it has another form.
     fn takes(&mut self, choice: Choice, value: &str) -> Result<bool, AllocError> {
         match choice {
-            Choice::Align => return self.align(value),
+            Choice::Align => return align(self.alloc, &mut self.wanted.request, value),
             Choice::Span => match span_of(value) {
-                Some(span) => self.request.spans.push(span)?,
+                Some(span) => self.wanted.request.spans.push(span)?,
                 None => return Ok(false),
             },
-            Choice::Check => self.check = Some(String::from_str(self.alloc, value)?),
+            Choice::Check => self.wanted.check = Some(String::from_str(self.alloc, value)?),
             Choice::Style => match style_named(value) {
                 Some(style) => self.style = style,
                 None => return Ok(false),
             },
             Choice::Valign => match vertical_of(value) {
-                Some(vertical) => self.request.vertical = vertical,
+                Some(vertical) => self.wanted.request.vertical = vertical,
                 None => return Ok(false),
             },
             Choice::Pad => {
@@ -241,31 +244,16 @@ impl Draft {
 
     /// Takes the number of an option, if it is one.
     fn takes_number(&mut self, choice: Choice, number: Option<usize>) -> bool {
-        let request = &mut self.request;
+        let request = &mut self.wanted.request;
         match choice {
             Choice::Width if !is_width(number) => return false,
-            Choice::Width => self.width = number,
+            Choice::Width => self.wanted.width = number,
             Choice::MaxWidth => request.max_width = number,
             Choice::Cut => request.cut = number,
             Choice::Tab => request.reading.tab = number,
             _ => return false,
         }
         number.is_some()
-    }
-
-    /// Takes an alignment, of all cells or of a column.
-    fn align(&mut self, value: &str) -> Result<bool, AllocError> {
-        if let Some(alignment) = alignment_of(value) {
-            self.request.alignment = alignment;
-            return Ok(true);
-        }
-        match column_alignment(self.alloc, value)? {
-            Some(column) => {
-                self.request.columns.push(column)?;
-                Ok(true)
-            }
-            None => Ok(false),
-        }
     }
 
     /// What all words tell.
@@ -282,32 +270,29 @@ impl Draft {
             pad,
             fits,
             of_fields,
-            mut request,
-            width,
-            witness,
-            check,
-            explains_json,
+            mut wanted,
         } = self;
         let asked = asked.unwrap_or(Asked::OfInput);
-        let kind = kind.unwrap_or(kind_named(&asked));
-        request.reading.format = format_of(alloc, kind, delimiter, of_fields)?;
-        if witness && kind == Kind::Json {
-            let text = "--witness: not for JSON, and the input is JSON";
-            return Err(Misuse::Said(String::from_str(alloc, text)?));
-        }
-        if width.is_some() {
-            refuse_beside_width(alloc, &request)?;
-        }
-        draw_in_style(alloc, style, pad, fits, &mut request)?;
-        let wanted = Wanted {
-            kind,
-            request,
-            width,
-            witness,
-            check,
-            explains_json,
-        };
+        wanted.kind = kind.unwrap_or(kind_named(&asked));
+        wanted.request.reading.format = format_of(alloc, wanted.kind, delimiter, of_fields)?;
+        refuse_together(alloc, &wanted)?;
+        draw_in_style(alloc, style, pad, fits, &mut wanted.request)?;
         Ok((asked, wanted))
+    }
+}
+
+/// Takes an alignment, of all cells or of a column.
+fn align(alloc: Global, request: &mut Request, value: &str) -> Result<bool, AllocError> {
+    if let Some(alignment) = alignment_of(value) {
+        request.alignment = alignment;
+        return Ok(true);
+    }
+    match column_alignment(alloc, value)? {
+        Some(column) => {
+            request.columns.push(column)?;
+            Ok(true)
+        }
+        None => Ok(false),
     }
 }
 
@@ -320,6 +305,18 @@ fn is_width(number: Option<usize>) -> bool {
         Some(width) => 0 < width && width <= WIDEST,
         None => false,
     }
+}
+
+/// Refuses `--witness` of a document, and the options that `--width` chooses the values of beside it.
+fn refuse_together(alloc: Global, wanted: &Wanted) -> Result<(), Misuse> {
+    if wanted.witness && wanted.kind == Kind::Json {
+        let text = "--witness: not for JSON, and the input is JSON";
+        return Err(Misuse::Said(String::from_str(alloc, text)?));
+    }
+    if wanted.width.is_some() {
+        return refuse_beside_width(alloc, &wanted.request);
+    }
+    Ok(())
 }
 
 /// Refuses the options that `--width` chooses the values of.

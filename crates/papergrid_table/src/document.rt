@@ -4,7 +4,7 @@ ghost use Rattle.std.specs.Prelude.{◌≡◌, false};
 
 use papergrid::grid::DrawError;
 use papergrid::{RunFault, Sink, Sizing, Source, read_all};
-use papergrid_json::{DocumentError, SETTINGS, draw_document, read_document};
+use papergrid_json::{DocumentError, Form, SETTINGS, draw_document, read_document};
 use papergrid_program::{name_like, quoted};
 use std::alloc::{AllocError, Global};
 
@@ -29,12 +29,16 @@ pub fn run_document<S: Source, W: Sink>(
     requires { S.has_failed reader.old ≡ false }
 {
     *input = read_all(alloc, reader)?;
-    let document = match read_document(alloc, input) {
-        Ok(document) => document,
-        Err(DocumentError::Memory) => return Err(RunFault::Memory),
-        Err(_) => return Ok(DocumentEnd::Bad),
-    };
-    match draw_document(alloc, &document, sizing, writer) {
+    match read_document(alloc, input) {
+        Ok(document) => end_of(draw_document(alloc, &document, sizing, writer)),
+        Err(DocumentError::Memory) => Err(RunFault::Memory),
+        Err(_) => Ok(DocumentEnd::Bad),
+    }
+}
+
+/// How a run ends whose table was drawn so.
+fn end_of(drawn: Result<(), DrawError>) -> Result<DocumentEnd, RunFault> {
+    match drawn {
         Ok(()) => Ok(DocumentEnd::Drawn),
         Err(DrawError::Memory(_)) => Err(RunFault::Memory),
         Err(DrawError::Write) => Err(RunFault::Write),
@@ -64,8 +68,9 @@ fn said_of_error(alloc: Global, name: &str, error: &DocumentError) -> Result<Str
     let DocumentError::UnknownSetting { index, name: word } = error else {
         return format!(in alloc; "{name}: {error}");
     };
+    let like = setting_like(alloc, word.as_str())?;
     let written = quoted(alloc, word.as_str())?;
-    match name_like(alloc, word.as_str(), &setting_names(alloc)?)? {
+    match like {
         Some(like) => format!(in alloc;
             "{name}: settings[{index}]: {written} is not a setting; did you mean {like}?"
         ),
@@ -75,11 +80,16 @@ fn said_of_error(alloc: Global, name: &str, error: &DocumentError) -> Result<Str
     }
 }
 
-/// The names of all settings.
-fn setting_names(alloc: Global) -> Result<Vec<&'static str>, AllocError> {
+/// The name of a setting that is most like this word, if one is like it.
+fn setting_like(alloc: Global, word: &str) -> Result<Option<&'static str>, AllocError> {
     let mut names = Vec::with_capacity(alloc, SETTINGS.len())?;
-    for (name, ..) in &SETTINGS {
-        names.push(*name)?;
+    for setting in settings() {
+        names.push(setting.0)?;
     }
-    Ok(names)
+    name_like(alloc, word, &names)
+}
+
+/// All settings of a document.
+pub fn settings() -> &'static [Form] {
+    &SETTINGS
 }

@@ -66,9 +66,15 @@ can't be written. Nothing is written before the whole input is judged.
 /// What the program takes, the lines of a script, and how it ends.
 pub fn help_text(alloc: Global) -> Result<String, AllocError> {
     let mut text = String::from_str(alloc, TAKEN)?;
-    for form in FORMS {
-        writeln!(text, "  {:<34}{}", form.spelled, form.does)?;
-    }
+    add_forms(&mut text)?;
     text.push_str(WRITTEN)?;
     Ok(text)
+}
+
+/// Adds the lines of a script.
+fn add_forms(text: &mut String) -> Result<(), AllocError> {
+    for form in &FORMS {
+        writeln!(text, "  {:<34}{}", form.spelled, form.does)?;
+    }
+    Ok(())
 }

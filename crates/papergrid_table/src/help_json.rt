@@ -1,6 +1,6 @@
 //! What the program says of JSON documents.
 
-use papergrid_json::SETTINGS;
+use crate::document::settings;
 use std::alloc::{AllocError, Global};
 
 const EXAMPLE: &str = "\
@@ -56,9 +56,15 @@ Sides are top, bottom, left and right.
 /// An example of a document, and all settings.
 pub fn json_help_text(alloc: Global) -> Result<String, AllocError> {
     let mut text = String::from_str(alloc, EXAMPLE)?;
-    for (.., spelled) in &SETTINGS {
-        writeln!(text, "  {spelled}")?;
-    }
+    add_settings(&mut text)?;
     text.push_str(VALUES)?;
     Ok(text)
+}
+
+/// Adds how each setting is spelled.
+fn add_settings(text: &mut String) -> Result<(), AllocError> {
+    for (.., spelled) in settings() {
+        writeln!(text, "  {spelled}")?;
+    }
+    Ok(())
 }

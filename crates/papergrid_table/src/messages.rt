@@ -1,7 +1,7 @@
 //! What is said of a text that has no picture.
 
 use crate::places::{first_bad_byte, record_after, unclosed_line};
-use crate::sizes::whole_rows;
+use crate::sizes::{text_at, whole_rows};
 use crate::values::{alignment_name, span_text};
 use crate::wide::too_wide;
 use bumpalo::Bump;
@@ -84,31 +84,40 @@ fn out_of_table(
     input: &[u8],
     position: Position,
 ) -> Result<String, AllocError> {
-    let texts = Bump::new(alloc);
-    let (rows, columns) = match whole_rows(alloc, &texts, request, input)? {
-        Some(found) => (found.rows.len(), found.columns),
-        None => (0, 0),
-    };
+    let (rows, columns) = rows_and_columns(alloc, request, input)?;
     let Position { row, col } = position;
-    let Some(span) = request
-        .spans
-        .iter()
-        .rev()
-        .find(|span| span.position == position)
-    else {
+    let Some(span) = last_at(&request.spans, position) else {
         return format!(in alloc; "the cell at row {row}, column {col} is out of the table");
     };
     let option = span_text(alloc, span)?;
     let across = col as u128 + span.columns as u128;
     let down = row as u128 + span.rows as u128;
-    if across > columns as u128 {
-        return format!(in alloc;
-            "{option}: the cell at row {row}, column {col} needs {across} columns, and the table has {columns}"
-        );
-    }
+    let (needs, what, has) = if across > columns as u128 {
+        (across, "columns", columns)
+    } else {
+        (down, "rows", rows)
+    };
     format!(in alloc;
-        "{option}: the cell at row {row}, column {col} needs {down} rows, and the table has {rows}"
+        "{option}: the cell at row {row}, column {col} needs {needs} {what}, and the table has {has}"
     )
+}
+
+/// How many rows and columns a text has; none where it has no rows.
+fn rows_and_columns(
+    alloc: Global,
+    request: &Request,
+    input: &[u8],
+) -> Result<(usize, usize), AllocError> {
+    let texts = Bump::new(alloc);
+    match whole_rows(alloc, &texts, request, input)? {
+        Some(found) => Ok((found.rows.len(), found.columns)),
+        None => Ok((0, 0)),
+    }
+}
+
+/// The last span of the cell at a position.
+fn last_at(spans: &[Span], position: Position) -> Option<&Span> {
+    spans.iter().rev().find(|span| span.position == position)
 }
 
 /// What is said of a position that two spans cover.
@@ -147,25 +156,43 @@ fn hides(
     input: &[u8],
     position: Position,
 ) -> Result<String, AllocError> {
-    let texts = Bump::new(alloc);
-    let rows = whole_rows(alloc, &texts, request, input)?;
     let Position { row, col } = position;
-    let mut field = "";
-    if let Some(found) = &rows {
-        if let Some(text) = found.rows.get(row).and_then(|fields| fields.get(col)) {
-            field = text;
-        }
-    }
-    let field = quoted(alloc, field)?;
-    for span in &request.spans {
-        if covers(span, position) && span.position != position {
+    let field = field_at(alloc, request, input, position)?;
+    match hider_of(&request.spans, position) {
+        Some(span) => {
             let option = span_text(alloc, span)?;
-            return format!(in alloc;
+            format!(in alloc;
                 "{option}: hides the field {field} at row {row}, column {col} (--hide)"
-            );
+            )
+        }
+        None => format!(in alloc;
+            "a span hides the field {field} at row {row}, column {col} (--hide)"
+        ),
+    }
+}
+
+/// The field at a position in quotes, which is empty where there is none.
+fn field_at(
+    alloc: Global,
+    request: &Request,
+    input: &[u8],
+    position: Position,
+) -> Result<String, AllocError> {
+    let texts = Bump::new(alloc);
+    match whole_rows(alloc, &texts, request, input)? {
+        Some(rows) => quoted(alloc, text_at(&rows, position).unwrap_or("")),
+        None => quoted(alloc, ""),
+    }
+}
+
+/// The first span that covers a position and begins at another.
+fn hider_of(spans: &[Span], position: Position) -> Option<&Span> {
+    for span in spans {
+        if covers(span, position) && span.position != position {
+            return Some(span);
         }
     }
-    format!(in alloc; "a span hides the field {field} at row {row}, column {col} (--hide)")
+    None
 }
 
 /// What is said of an alignment of a column that there is not.
@@ -180,21 +207,30 @@ fn no_column(
     };
     let value = alignment_name(*alignment);
     let written = shown(alloc, head.as_str())?;
-    let texts = Bump::new(alloc);
-    let rows = whole_rows(alloc, &texts, request, input)?;
-    let mut like = None;
-    if let Some(found) = &rows {
-        if let Some(heads) = found.rows.first() {
-            like = name_like(alloc, head.as_str(), heads.as_slice())?;
-        }
-    }
-    match like {
-        Some(like) => {
-            let like = shown(alloc, like)?;
-            format!(in alloc;
-                "--align {written}={value}: no column has that head; did you mean {like}?"
-            )
-        }
+    match head_like(alloc, request, input, head.as_str())? {
+        Some(like) => format!(in alloc;
+            "--align {written}={value}: no column has that head; did you mean {like}?"
+        ),
         None => format!(in alloc; "--align {written}={value}: no column has that head"),
+    }
+}
+
+/// The head that is most like this word, as messages tell it, if one is like it.
+fn head_like(
+    alloc: Global,
+    request: &Request,
+    input: &[u8],
+    word: &str,
+) -> Result<Option<String>, AllocError> {
+    let texts = Bump::new(alloc);
+    let Some(found) = whole_rows(alloc, &texts, request, input)? else {
+        return Ok(None);
+    };
+    let Some(heads) = found.rows.first() else {
+        return Ok(None);
+    };
+    match name_like(alloc, word, heads.as_slice())? {
+        Some(like) => Ok(Some(shown(alloc, like)?)),
+        None => Ok(None),
     }
 }

@@ -1,6 +1,6 @@
 //! Where in a text something stands.
 
-use csv::{ByteRecord, Error, ErrorKind, ReaderBuilder};
+use csv::{ByteRecord, Error, ErrorKind, Reader, ReaderBuilder};
 use papergrid_csv::{Format, Reading};
 use std::alloc::{AllocError, Global};
 
@@ -56,13 +56,28 @@ pub fn record_after(
     let text = text
         .strip_prefix(b"\xef\xbb\xbf".as_slice())
         .unwrap_or(text);
+    let mut reader = builder_of(reading.format).from_reader(alloc, text);
+    read_after(alloc, &mut reader, text, count)
+}
+
+/// How the records of a text are told apart.
+fn builder_of(format: Format) -> ReaderBuilder {
     let mut builder = ReaderBuilder::new();
     builder.has_headers(false).flexible(true);
-    match reading.format {
+    match format {
         Format::Csv(delimiter) => builder.delimiter(delimiter),
         Format::Tsv => builder.delimiter(b'\t').quoting(false),
     };
-    let mut reader = builder.from_reader(alloc, text);
+    builder
+}
+
+/// The record after so many others, of a reader at the beginning of this text.
+fn read_after(
+    alloc: Global,
+    reader: &mut Reader<&[u8]>,
+    text: &[u8],
+    count: usize,
+) -> Result<Option<Found>, AllocError> {
     let mut record = ByteRecord::new(alloc);
     for number in 0..=count {
         match reader.read_byte_record(&mut record) {

@@ -40,17 +40,7 @@ pub fn answered_from<R: Read + Drop>(
     let progress = Progress::new(rt, is_typed);
     match wanted.check.take() {
         None => drawn(rt, &progress, &mut wanted, name, reader),
-        Some(path) => match File::open(rt, path.as_str()) {
-            Ok(file) => compared(
-                rt,
-                &progress,
-                &mut wanted,
-                (name, path.as_str()),
-                reader,
-                file,
-            ),
-            Err(error) => unopened(rt, rt.alloc(), path.as_str(), &error),
-        },
+        Some(path) => compared(rt, &progress, &mut wanted, (name, path.as_str()), reader),
     }
 }
 
@@ -87,44 +77,79 @@ fn drawn<R: Read + Drop>(
     }
 }
 
-/// Compares the table with a file, of these names.
+/// A file that a table is compared with.
+#[derive(Drop)]
+struct Picture {
+    /// Its name, as messages tell it.
+    name: String,
+    bytes: Vec<u8>,
+}
+
+/// Compares the table of the input of this name with the file at a path.
 fn compared<R: Read + Drop>(
     rt: &HostRuntime,
     progress: &Progress<'_>,
     wanted: &mut Wanted,
     (name, path): (&str, &str),
     reader: R,
-    file: File,
 ) -> ExitCode {
-    let Ok(picture_name) = shown(rt.alloc(), path) else {
-        return fault(rt, name, RunFault::Memory, false);
-    };
-    let mut source = ReadSource::new(file);
-    let picture = match read_all(rt.alloc(), &mut source) {
+    let picture = match picture_at(rt, name, path) {
         Ok(picture) => picture,
-        Err(reason) => return fault(rt, picture_name.as_str(), reason, false),
+        Err(code) => return code,
     };
     let reader = Watched {
         inner: reader,
         progress,
     };
-    let mut comparing = Compared::new(&picture);
+    let mut comparing = Compared::new(&picture.bytes);
     let mut input = Vec::new(rt.alloc());
     let end = run(rt.alloc(), wanted, reader, &mut comparing, &mut input);
     progress.end();
-    let end = match end {
-        Ok(end) => end,
-        Err(reason) => return fault(rt, name, reason, false),
-    };
-    let code = ended(rt, wanted, name, &input, end);
-    if !is_drawn(end) {
-        return code;
+    match end {
+        Ok(end) => {
+            let code = ended(rt, wanted, name, &input, end);
+            if is_drawn(end) {
+                judged(rt, code, name, picture.name.as_str(), &comparing)
+            } else {
+                code
+            }
+        }
+        Err(reason) => fault(rt, name, reason, false),
     }
+}
+
+/// The file at a path, or the status where it is not read. The name is that of the input.
+fn picture_at(rt: &HostRuntime, name: &str, path: &str) -> Result<Picture, ExitCode> {
+    let file = match File::open(rt, path) {
+        Ok(file) => file,
+        Err(error) => return Err(unopened(rt, rt.alloc(), path, &error)),
+    };
+    let Ok(shown_name) = shown(rt.alloc(), path) else {
+        return Err(fault(rt, name, RunFault::Memory, false));
+    };
+    let mut source = ReadSource::new(file);
+    match read_all(rt.alloc(), &mut source) {
+        Ok(bytes) => Ok(Picture {
+            name: shown_name,
+            bytes,
+        }),
+        Err(reason) => Err(fault(rt, shown_name.as_str(), reason, false)),
+    }
+}
+
+/// Says where the picture of this name differs from the table of the other, if it does. Else the status stays.
+fn judged(
+    rt: &HostRuntime,
+    code: ExitCode,
+    name: &str,
+    picture: &str,
+    comparing: &Compared<'_>,
+) -> ExitCode {
     match comparing.difference() {
         None => code,
         Some((line, column)) => {
             let _ = eprintln!(rt;
-                "{picture_name}: line {line}, column {column}: differs from the table of {name} (--check)"
+                "{picture}: line {line}, column {column}: differs from the table of {name} (--check)"
             );
             ExitCode::from(1)
         }

@@ -64,6 +64,11 @@ pub fn whole_rows<'t>(
     }
 }
 
+/// The text at a position, where its row has one.
+pub fn text_at<'r>(rows: &Rows<'r>, position: Position) -> Option<&'r str> {
+    rows.rows.get(position.row)?.get(position.col).copied()
+}
+
 /// What decides the sizes of a table of so many rows: its lines, its padding and its spans.
 fn configuration(
     alloc: Global,

@@ -1,7 +1,7 @@
 //! What is said of a table that is wider than it may be.
 
 use crate::places::record_after;
-use crate::sizes::{certified, shown_rows};
+use crate::sizes::{certified, shown_rows, text_at};
 use bumpalo::Bump;
 use papergrid::util::string::get_text_width;
 use papergrid_csv::{Request, Rows};
@@ -74,28 +74,57 @@ fn name_cells(
     (witness, width): (&[Position], usize),
 ) -> Result<(), AllocError> {
     let texts = Bump::new(alloc);
-    let Some(rows) = shown_rows(alloc, &texts, request, input)? else {
-        return Ok(());
-    };
-    let mut cells = Vec::with_capacity(alloc, witness.len())?;
-    for position in witness {
-        cells.push(asked_of(request, &rows, *position))?;
+    match shown_rows(alloc, &texts, request, input)? {
+        Some(rows) => name_widest(alloc, text, request, (&rows, input), (witness, width)),
+        None => Ok(()),
     }
-    cells.sort_by_key(|cell| usize::MAX.saturating_sub(cell.width))?;
+}
+
+/// The same of the cells of these rows.
+fn name_widest(
+    alloc: Global,
+    text: &mut String,
+    request: &Request,
+    (rows, input): (&Rows<'_>, &[u8]),
+    (witness, width): (&[Position], usize),
+) -> Result<(), AllocError> {
+    let cells = widest_first(alloc, request, rows, witness)?;
     let mut rest = width;
     let mut is_first = true;
     for cell in cells.iter().take(NAMED) {
-        let (head, line) = cell_name(alloc, request, &rows, input, cell.position)?;
         text.push_str(if is_first { ": " } else { ", " })?;
-        add_cell(text, head.as_str(), line, cell.width)?;
+        add_cell(alloc, text, request, (rows, input), *cell)?;
         rest = rest.saturating_sub(cell.width);
         is_first = false;
     }
     write!(text, ", lines and the rest {rest}")
 }
 
-/// Adds what a cell of this name takes.
-fn add_cell(text: &mut String, name: &str, line: usize, takes: usize) -> Result<(), AllocError> {
+/// The cells at these positions, the widest first.
+fn widest_first(
+    alloc: Global,
+    request: &Request,
+    rows: &Rows<'_>,
+    positions: &[Position],
+) -> Result<Vec<Asking>, AllocError> {
+    let mut cells = Vec::with_capacity(alloc, positions.len())?;
+    for position in positions {
+        cells.push(asked_of(request, rows, *position))?;
+    }
+    cells.sort_by_key(|cell| usize::MAX.saturating_sub(cell.width))?;
+    Ok(cells)
+}
+
+/// Adds the name of a cell and what it takes.
+fn add_cell(
+    alloc: Global,
+    text: &mut String,
+    request: &Request,
+    (rows, input): (&Rows<'_>, &[u8]),
+    cell: Asking,
+) -> Result<(), AllocError> {
+    let takes = cell.width;
+    let (name, line) = cell_name(alloc, request, rows, input, cell.position)?;
     write!(text, "{name} (line {line}) takes {takes}")
 }
 
@@ -114,11 +143,6 @@ fn asked_of(request: &Request, rows: &Rows<'_>, position: Position) -> Asking {
         position,
         width: text.saturating_add(sides),
     }
-}
-
-/// The text at a position, where its row has one.
-fn text_at<'r>(rows: &Rows<'r>, position: Position) -> Option<&'r str> {
-    rows.rows.get(position.row)?.get(position.col).copied()
 }
 
 /// The head of the column of a cell, or its number, and the line of its record.
