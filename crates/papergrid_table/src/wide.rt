@@ -92,8 +92,8 @@ fn name_widest(
     let mut rest = width;
     let mut is_first = true;
     for cell in cells.iter().take(NAMED) {
-        text.push_str(if is_first { ": " } else { ", " })?;
-        add_cell(alloc, text, request, (rows, input), *cell)?;
+        let before = if is_first { ": " } else { ", " };
+        add_cell(alloc, text, request, (rows, input), (before, *cell))?;
         rest = rest.saturating_sub(cell.width);
         is_first = false;
     }
@@ -115,17 +115,17 @@ fn widest_first(
     Ok(cells)
 }
 
-/// Adds the name of a cell and what it takes.
+/// Adds the name of a cell and what it takes, with what stands before them.
 fn add_cell(
     alloc: Global,
     text: &mut String,
     request: &Request,
     (rows, input): (&Rows<'_>, &[u8]),
-    cell: Asking,
+    (before, cell): (&str, Asking),
 ) -> Result<(), AllocError> {
     let takes = cell.width;
     let (name, line) = cell_name(alloc, request, rows, input, cell.position)?;
-    write!(text, "{name} (line {line}) takes {takes}")
+    write!(text, "{before}{name} (line {line}) takes {takes}")
 }
 
 /// What a cell asks for: the width of its text and of its padding.
