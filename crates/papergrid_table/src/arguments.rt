@@ -108,16 +108,24 @@ pub fn asked_for(alloc: Global, words: Args) -> Result<(Asked, Wanted), Misuse>
         before = draft.take(before, word)?;
     }
     match before {
-        Some(option) => Err(lacks_value(alloc, &option)?),
+        Some(option) => Err(lacks_value(alloc, &option)),
         None => draft.finish(),
     }
 }
 
 /// What is said of an option that is the last word, and has no value.
-fn lacks_value(alloc: Global, option: &Listed) -> Result<Misuse, AllocError> {
+fn lacks_value(alloc: Global, option: &Listed) -> Misuse {
     let name = option.name;
     let value = option.value.unwrap_or("a value");
-    Ok(Misuse::Said(format!(in alloc; "{name}: no value follows; it takes {value}")?))
+    said(format!(in alloc; "{name}: no value follows; it takes {value}"))
+}
+
+/// A misuse of which this is said, if there was memory for it.
+fn said(text: Result<String, AllocError>) -> Misuse {
+    match text {
+        Ok(text) => Misuse::Said(text),
+        Err(_) => Misuse::Memory,
+    }
 }
 
 /// What is said of a word that is no value of the option.
@@ -175,8 +183,7 @@ impl Draft {
             (None, None) => self.switch(option.choice),
             (None, Some(_)) => {
                 let name = option.name;
-                let text = format!(in self.alloc; "{name}: takes no value")?;
-                return Err(Misuse::Said(text));
+                return Err(said(format!(in self.alloc; "{name}: takes no value")));
             }
         }
         Ok(None)
@@ -209,7 +216,7 @@ impl Draft {
         if self.takes(option.choice, value)? {
             return Ok(());
         }
-        Err(Misuse::Said(no_value(self.alloc, option, value)?))
+        Err(said(no_value(self.alloc, option, value)))
     }
 
     /// Takes the value of an option; false where it has another form.
@@ -274,8 +281,7 @@ impl Draft {
         } = self;
         let asked = asked.unwrap_or(Asked::OfInput);
         wanted.kind = kind.unwrap_or(kind_named(&asked));
-        wanted.request.reading.format = format_of(alloc, wanted.kind, delimiter, of_fields)?;
-        refuse_together(alloc, &wanted)?;
+        tell_format(alloc, &mut wanted, delimiter, of_fields)?;
         draw_in_style(alloc, style, pad, fits, &mut wanted.request)?;
         Ok((asked, wanted))
     }
@@ -307,11 +313,17 @@ fn is_width(number: Option<usize>) -> bool {
     }
 }
 
-/// Refuses `--witness` of a document, and the options that `--width` chooses the values of beside it.
-fn refuse_together(alloc: Global, wanted: &Wanted) -> Result<(), Misuse> {
+/// Tells how the input is read. Refused are options that are not for its kind, or not beside another one.
+fn tell_format(
+    alloc: Global,
+    wanted: &mut Wanted,
+    delimiter: Option<u8>,
+    of_fields: Option<&'static str>,
+) -> Result<(), Misuse> {
+    wanted.request.reading.format = format_of(alloc, wanted.kind, delimiter, of_fields)?;
     if wanted.witness && wanted.kind == Kind::Json {
         let text = "--witness: not for JSON, and the input is JSON";
-        return Err(Misuse::Said(String::from_str(alloc, text)?));
+        return Err(said(String::from_str(alloc, text)));
     }
     if wanted.width.is_some() {
         return refuse_beside_width(alloc, &wanted.request);
@@ -328,7 +340,7 @@ fn refuse_beside_width(alloc: Global, request: &Request) -> Result<(), Misuse> {
     } else {
         return Ok(());
     };
-    Err(Misuse::Said(format!(in alloc; "--width: not together with {other}")?))
+    Err(said(format!(in alloc; "--width: not together with {other}")))
 }
 
 /// Asks for the lines of a style, for its padding where no other is told, and for crossings that fit the spans if they are to.
@@ -363,7 +375,7 @@ fn junctions_of(alloc: Global, style: Style) -> Result<Junctions, Misuse>
         None => {
             let name = name_of(style);
             let text = "has no crossings to fit";
-            Err(Misuse::Said(format!(in alloc; "--fit-crossings: the style {name} {text}")?))
+            Err(said(format!(in alloc; "--fit-crossings: the style {name} {text}")))
         }
     }
 }
@@ -377,18 +389,16 @@ fn format_of(
 ) -> Result<Format, Misuse> {
     match (kind, delimiter, of_fields) {
         (Kind::Script, _, Some(name)) => {
-            let text = format!(in alloc;
-                "{name}: for CSV and TSV alone, and the input is a script"
-            )?;
-            Err(Misuse::Said(text))
+            let text = "for CSV and TSV alone, and the input is a script";
+            Err(said(format!(in alloc; "{name}: {text}")))
         }
         (Kind::Json, _, Some(name)) => {
-            let text = format!(in alloc; "{name}: for CSV and TSV alone, and the input is JSON")?;
-            Err(Misuse::Said(text))
+            let text = "for CSV and TSV alone, and the input is JSON";
+            Err(said(format!(in alloc; "{name}: {text}")))
         }
         (Kind::Tsv, Some(_), _) => {
             let text = "--delimiter: for CSV alone, and the input is TSV";
-            Err(Misuse::Said(String::from_str(alloc, text)?))
+            Err(said(String::from_str(alloc, text)))
         }
         (Kind::Tsv, None, _) => Ok(Format::Tsv),
         _ => Ok(Format::Csv(delimiter.unwrap_or(b','))),

@@ -14,20 +14,19 @@ pub fn witness_of_text(
 ) -> Result<String, AllocError> {
     let mut lines = String::new(alloc);
     if let Some(found) = certified(alloc, request, input)? {
-        push_witness(&mut lines, "widths", &found.width_witness)?;
-        lines.push('\n')?;
-        push_witness(&mut lines, "heights", &found.height_witness)?;
+        push_witness(&mut lines, "witness widths", &found.width_witness)?;
+        push_witness(&mut lines, "\nwitness heights", &found.height_witness)?;
     }
     Ok(lines)
 }
 
-/// Adds a line with the positions, or `none`.
+/// Adds these words, and the positions or `none`.
 fn push_witness(
     lines: &mut String,
-    what: &str,
+    words: &str,
     witness: &Option<Vec<Position>>,
 ) -> Result<(), AllocError> {
-    write!(lines, "witness {what}")?;
+    lines.push_str(words)?;
     match witness {
         Some(positions) => {
             for position in positions {
