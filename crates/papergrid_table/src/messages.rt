@@ -1,6 +1,6 @@
 //! What is said of a text that has no picture.
 
-use crate::places::{first_bad_byte, record_after, unclosed_line};
+use crate::places::{first_bad_byte, line_of_record, record_after, unclosed_line};
 use crate::sizes::{text_at, whole_rows};
 use crate::values::{alignment_name, span_text};
 use crate::wide::too_wide;
@@ -54,8 +54,11 @@ fn ragged(
     input: &[u8],
     (count, fields): (usize, usize),
 ) -> Result<String, AllocError> {
-    let line = record_after(alloc, request.reading, input, count)?.map_or(1, |found| found.line);
-    let first = record_after(alloc, request.reading, input, 0)?.map_or(0, |found| found.fields);
+    let line = line_of_record(alloc, request.reading, input, count)?;
+    let first = match record_after(alloc, request.reading, input, 0)? {
+        Some(found) => found.fields,
+        None => 0,
+    };
     let what = if fields == 1 { "field" } else { "fields" };
     format!(in alloc;
         "{name}: line {line}: {fields} {what}, and the first row has {first} (--strict)"
@@ -117,7 +120,13 @@ fn rows_and_columns(
 
 /// The last span of the cell at a position.
 fn last_at(spans: &[Span], position: Position) -> Option<&Span> {
-    spans.iter().rev().find(|span| span.position == position)
+    let mut last = None;
+    for span in spans {
+        if span.position == position {
+            last = Some(span);
+        }
+    }
+    last
 }
 
 /// What is said of a position that two spans cover.

@@ -60,6 +60,19 @@ pub fn record_after(
     read_after(alloc, &mut reader, text, count)
 }
 
+/// The line of the record after so many others, or the first where there is none.
+pub fn line_of_record(
+    alloc: Global,
+    reading: Reading,
+    text: &[u8],
+    count: usize,
+) -> Result<usize, AllocError> {
+    match record_after(alloc, reading, text, count)? {
+        Some(found) => Ok(found.line),
+        None => Ok(1),
+    }
+}
+
 /// How the records of a text are told apart.
 fn builder_of(format: Format) -> ReaderBuilder {
     let mut builder = ReaderBuilder::new();

@@ -1,6 +1,6 @@
 //! What is said of a table that is wider than it may be.
 
-use crate::places::record_after;
+use crate::places::line_of_record;
 use crate::sizes::{certified, shown_rows, text_at};
 use bumpalo::Bump;
 use papergrid::util::string::get_text_width;
@@ -153,11 +153,8 @@ fn cell_name(
     input: &[u8],
     position: Position,
 ) -> Result<(String, usize), AllocError> {
-    let line = record_after(alloc, request.reading, input, position.row)?.map_or(
-        1,
-        |found| found.line,
-    );
-    let head = match rows.rows.first().and_then(|heads| heads.get(position.col)) {
+    let line = line_of_record(alloc, request.reading, input, position.row)?;
+    let head = match text_at(rows, Position::new(0, position.col)) {
         Some(head) if request.has_head && !head.is_empty() => shown(alloc, head)?,
         _ => {
             let column = position.col;
