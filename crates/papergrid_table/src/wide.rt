@@ -74,58 +74,29 @@ fn name_cells(
     (witness, width): (&[Position], usize),
 ) -> Result<(), AllocError> {
     let texts = Bump::new(alloc);
-    match shown_rows(alloc, &texts, request, input)? {
-        Some(rows) => name_widest(alloc, text, request, (&rows, input), (witness, width)),
-        None => Ok(()),
+    let Some(rows) = shown_rows(alloc, &texts, request, input)? else {
+        return Ok(());
+    };
+    let mut cells = Vec::with_capacity(alloc, witness.len())?;
+    for position in witness {
+        cells.push(asked_of(request, &rows, *position))?;
     }
-}
-
-/// The same of the cells of these rows.
-fn name_widest(
-    alloc: Global,
-    text: &mut String,
-    request: &Request,
-    (rows, input): (&Rows<'_>, &[u8]),
-    (witness, width): (&[Position], usize),
-) -> Result<(), AllocError> {
-    let cells = widest_first(alloc, request, rows, witness)?;
+    cells.sort_by_key(|cell| usize::MAX.saturating_sub(cell.width))?;
     let mut rest = width;
     let mut is_first = true;
     for cell in cells.iter().take(NAMED) {
-        let before = if is_first { ": " } else { ", " };
-        add_cell(alloc, text, request, (rows, input), (before, *cell))?;
+        let (head, line) = cell_name(alloc, request, &rows, input, cell.position)?;
+        text.push_str(if is_first { ": " } else { ", " })?;
+        add_cell(text, head.as_str(), line, cell.width)?;
         rest = rest.saturating_sub(cell.width);
         is_first = false;
     }
     write!(text, ", lines and the rest {rest}")
 }
 
-/// The cells at these positions, the widest first.
-fn widest_first(
-    alloc: Global,
-    request: &Request,
-    rows: &Rows<'_>,
-    positions: &[Position],
-) -> Result<Vec<Asking>, AllocError> {
-    let mut cells = Vec::with_capacity(alloc, positions.len())?;
-    for position in positions {
-        cells.push(asked_of(request, rows, *position))?;
-    }
-    cells.sort_by_key(|cell| usize::MAX.saturating_sub(cell.width))?;
-    Ok(cells)
-}
-
-/// Adds the name of a cell and what it takes, with what stands before them.
-fn add_cell(
-    alloc: Global,
-    text: &mut String,
-    request: &Request,
-    (rows, input): (&Rows<'_>, &[u8]),
-    (before, cell): (&str, Asking),
-) -> Result<(), AllocError> {
-    let takes = cell.width;
-    let (name, line) = cell_name(alloc, request, rows, input, cell.position)?;
-    write!(text, "{before}{name} (line {line}) takes {takes}")
+/// Adds what a cell of this name takes.
+fn add_cell(text: &mut String, name: &str, line: usize, takes: usize) -> Result<(), AllocError> {
+    write!(text, "{name} (line {line}) takes {takes}")
 }
 
 /// What a cell asks for: the width of its text and of its padding.
