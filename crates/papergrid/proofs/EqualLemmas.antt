@@ -8,12 +8,12 @@ use Rattle.papergrid_values.specs.contracts.position.PositionPartialEq.TheImpl a
 use Rattle.papergrid_layout.specs.declared.sizing.Sizing.{Sizing}
 use Rattle.papergrid_layout.specs.declared.sizing.Sizing.TheVariants.{ByShares, Least}
 use Rattle.papergrid_layout.specs.contracts.sizing.SizingPartialEq.TheImpl as sizing
-use Rattle.papergrid.specs.declared.explained.Reason.{Reason}
-use Rattle.papergrid.specs.declared.explained.Reason.TheVariants.{BadLine, OutOfTable, TooLarge}
-use Rattle.papergrid.specs.contracts.explained.ReasonPartialEq.TheImpl as reason
-use Rattle.papergrid.specs.declared.running.RunEnd.{RunEnd}
-use Rattle.papergrid.specs.declared.running.RunEnd.TheVariants.{BadScript, Done, Refused}
-use Rattle.papergrid.specs.contracts.running.RunEndPartialEq.TheImpl as run_end
+use Rattle.papergrid_script.specs.declared.explained.Reason.{Reason}
+use Rattle.papergrid_script.specs.declared.explained.Reason.TheVariants.{BadLine, OutOfTable, TooLarge}
+use Rattle.papergrid_script.specs.contracts.explained.ReasonPartialEq.TheImpl as reason
+use Rattle.papergrid_script.specs.declared.answer.RunEnd.{RunEnd}
+use Rattle.papergrid_script.specs.declared.answer.RunEnd.TheVariants.{BadScript, Done, Refused}
+use Rattle.papergrid_script.specs.contracts.answer.RunEndPartialEq.TheImpl as run_end
 use Rattle.papergrid.specs.declared.running.RunFault.{RunFault}
 use Rattle.papergrid.specs.declared.running.RunFault.TheVariants.{Memory, Read, Write}
 use Rattle.papergrid.specs.contracts.running.RunFaultPartialEq.TheImpl as run_fault

@@ -1,19 +1,3 @@
-mod CharacterLemmas
-mod CutLemmas
-pub mod DraftLemmas
+mod ConfiguredLemmas
 mod EqualLemmas
-mod EscapeLemmas
-mod EstimateLemmas
-mod GridLemmas
-mod LawLemmas
-mod LineLemmas
-mod ListedLemmas
-mod MarkLemmas
-mod RangeLemmas
 pub mod PictureLemmas
-mod ReadLemmas
-mod ReasonLemmas
-mod ScriptLineLemmas
-mod SeenLemmas
-mod SpellLemmas
-mod TellsLemmas

@@ -31,13 +31,13 @@ use Rattle.papergrid_draw.specs.Laws.{AreLinesAt}
 use Rattle.papergrid_draw.proofs.EstimateLemmas.{texts-leave-room}
 use Rattle.papergrid_draw.specs.declared.error.DrawError.{DrawError}
 use Rattle.papergrid_draw.specs.declared.error.DrawError.TheVariants as draw_errors
-use Rattle.papergrid.specs.Estimates.{text_measure}
+use Rattle.papergrid_script.specs.Estimates.{text_measure}
 use Rattle.papergrid_grid.specs.Cells.{lines_at, text_lines}
 use Rattle.papergrid_grid.specs.Lined.{lined}
 use Rattle.papergrid.specs.Layouts.{IsConfiguredBy}
-use Rattle.papergrid.specs.Scripts.{Table, table_of}
-use Rattle.papergrid.specs.declared.running.RunEnd.{RunEnd}
-use Rattle.papergrid.specs.declared.running.RunEnd.TheVariants.{Done, Refused}
+use Rattle.papergrid_script.specs.Scripts.{Table, table_of}
+use Rattle.papergrid_script.specs.declared.answer.RunEnd.{RunEnd}
+use Rattle.papergrid_script.specs.declared.answer.RunEnd.TheVariants.{Done, Refused}
 use Rattle.papergrid.specs.declared.running.RunFault.{RunFault}
 use Rattle.papergrid.specs.declared.running.RunFault.TheVariants as run_faults
 use Rattle.papergrid.specs.Pictures.{IsDrawingBy, IsDrawingWith, IsFaultWith, IsPictureFault, IsPictureOf, IsPictureRun, IsRefusal, IsTablePicture, Undrawn, Unsized, refusal_line, texts_drawing}

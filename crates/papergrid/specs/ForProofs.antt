@@ -1,6 +1,2 @@
 -- What no contract of the facade's calls reaches, and no law: only contracts of functions below them and proofs speak of it.
 pub mod Drawn
-pub mod Escapes
-pub mod ScriptSeen
-pub mod Seen
-pub mod Settings

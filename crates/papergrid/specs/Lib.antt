@@ -1,16 +1,4 @@
-pub mod Estimates
-pub mod Grammar
-pub mod Grids
 pub mod Layouts
-pub mod Outputs
 pub mod Pictures
-pub mod Reasons
-pub mod Rows
 pub mod Runs
-pub mod ScriptLines
-pub mod Scripts
-pub mod Spelling
-pub mod Tells
-pub mod Texts
-pub mod Totals
 pub mod ForProofs

@@ -14,12 +14,12 @@ use Rattle.papergrid_draw.specs.declared.error.DrawError.{DrawError}
 use Rattle.papergrid_draw.specs.declared.error.DrawError.TheVariants.{Memory, NoRoom, NotTiled, OutOfTable, TooLarge, Write}
 use Rattle.papergrid_grid.specs.Cells.{lines_at, text_lines}
 use Rattle.papergrid_grid.specs.Lined.{lined}
-use Rattle.papergrid.specs.Estimates.{text_measure}
+use Rattle.papergrid_script.specs.Estimates.{text_measure}
 use Rattle.papergrid.specs.Layouts.{IsConfiguredBy}
-use Rattle.papergrid.specs.Scripts.{Table, table_of}
-use Rattle.papergrid.specs.Texts.{newline}
-use Rattle.papergrid.specs.declared.running.RunEnd.{RunEnd}
-use Rattle.papergrid.specs.declared.running.RunEnd.TheVariants.{Done, Refused, BadScript}
+use Rattle.papergrid_script.specs.Scripts.{Table, table_of}
+use Rattle.papergrid_script.specs.Texts.{newline}
+use Rattle.papergrid_script.specs.declared.answer.RunEnd.{RunEnd}
+use Rattle.papergrid_script.specs.declared.answer.RunEnd.TheVariants.{Done, Refused, BadScript}
 
 -- the texts of records that hold their rows
 abbrev pub texts_held : {T : Type 0} → (T → List ℕ) → VecRecords T → List (List (List ℕ))

@@ -2,27 +2,17 @@
 //! tells such a table.
 #![tactic(auto)]
 
-mod cut;
-mod draft;
 mod drawing;
-mod estimate;
-mod explained;
 pub mod laws;
-mod number;
-mod output;
 mod running;
-pub mod script;
-mod script_line;
-pub mod script_setting;
-mod setting_line;
 mod table_layout;
-mod unescape;
 
 pub use drawing::{draw, run_table};
-pub use explained::{Reason, explain};
 pub use papergrid_draw::transfer::{Failed, ReadSource, Sink, Source, WriteSink};
 pub use papergrid_layout::{Sizing, Table};
-pub use running::{RunEnd, RunFault, read_all, run, run_keeping};
+pub use papergrid_script::answer::RunEnd;
+pub use papergrid_script::explained::{Reason, explain};
+pub use running::{RunFault, read_all, run, run_keeping};
 pub use table_layout::{layout, layout_least};
 
 /// Colours as texts.
@@ -123,6 +113,16 @@ pub mod records {
     pub mod vec_records {
         pub use papergrid_text::{Cell, StrWithWidth, Text, VecRecords};
     }
+}
+
+/// Scripts that tell a table.
+pub mod script {
+    pub use papergrid_script::script::{Script, ScriptError, read_script};
+}
+
+/// Settings as scripts spell them.
+pub mod script_setting {
+    pub use papergrid_script::script_setting::{ScriptSetting, configuration_of};
 }
 
 /// What helps with texts.

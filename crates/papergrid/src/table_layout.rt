@@ -7,7 +7,7 @@ ghost use Rattle.papergrid_config.specs.Grids.{spanned_grid};
 ghost use Rattle.papergrid_walk.specs.Measures.{line_measure};
 ghost use Rattle.papergrid_layout.specs.Answers.{UnlessMemory};
 ghost use Rattle.papergrid.specs.Layouts.{IsConfiguredBy, IsLaidOut, IsLaidOutLeast};
-ghost use Rattle.papergrid.specs.Grids.{grid_of};
+ghost use Rattle.papergrid_script.specs.Grids.{grid_of};
 ghost use Rattle.papergrid_text.specs.Records.{TellsRows};
 
 use papergrid_config::laws::history_decides;

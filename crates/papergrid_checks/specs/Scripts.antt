@@ -1,7 +1,7 @@
 -- What a caller asks of a script's reason.
 use Rattle.std.specs.Prelude.{ℕ, Option, None, Some}
-use Rattle.papergrid.specs.declared.explained.Reason.{Reason}
-use Rattle.papergrid.specs.declared.explained.Reason.TheVariants.{BadLine, OutOfTable, TooLarge}
+use Rattle.papergrid_script.specs.declared.explained.Reason.{Reason}
+use Rattle.papergrid_script.specs.declared.explained.Reason.TheVariants.{BadLine, OutOfTable, TooLarge}
 
 -- the number of the bad line that a reason names
 abbrev pub bad_number : Option Reason → Option ℕ

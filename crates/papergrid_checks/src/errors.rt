@@ -1,7 +1,7 @@
 //! Errors of the library as an `anyhow::Error`, by `?`.
 
 ghost use Rattle.std.specs.Prelude.{◌≡◌, All, IfOk, List, length, true, ℕ};
-ghost use Rattle.papergrid.specs.Grids.{grid_of};
+ghost use Rattle.papergrid_script.specs.Grids.{grid_of};
 ghost use Rattle.papergrid_config.specs.Applied.{is_in_range};
 ghost use Rattle.papergrid_layout.specs.Answers.{AreBothSizes};
 ghost use Rattle.papergrid_layout.specs.Places.{HasPlace, sized_table};

@@ -2,8 +2,8 @@
 
 ghost use Rattle.std.specs.Prelude.{◌≡◌, IfOk, OnErr, OnOk, false, take, ℕ};
 ghost use Rattle.std.specs.Io.KnownBytes.{Appends};
-ghost use Rattle.papergrid.specs.Outputs.{run_end_of, output_of};
-ghost use Rattle.papergrid.specs.Reasons.{reason_of};
+ghost use Rattle.papergrid_script.specs.Outputs.{run_end_of, output_of};
+ghost use Rattle.papergrid_script.specs.Reasons.{reason_of};
 ghost use Rattle.papergrid_checks.specs.Scripts.{bad_number};
 
 use papergrid::{ReadSource, Reason, RunEnd, RunFault, Sink, Sizing, explain, run};

@@ -27,7 +27,7 @@ use Rattle.papergrid_draw.specs.declared.error.DrawError.{DrawError}
 use Rattle.papergrid_draw.specs.declared.error.DrawError.TheVariants as draw_errors
 use Rattle.papergrid_grid.specs.Crossings.{IsFitFault, bare_drawing}
 use Rattle.papergrid_grid.specs.declared.crossings.Junctions.{Junctions}
-use Rattle.papergrid.specs.Estimates.{text_measure}
+use Rattle.papergrid_script.specs.Estimates.{text_measure}
 use Rattle.papergrid.specs.Pictures.{IsFaultWith, IsRefusal, Undrawn, Unsized, texts_drawing}
 use Rattle.papergrid_csv.specs.Pictures.{AreFitted, Faulty, IsCsvRefused, IsUnfitted, IsUnpictured, Unfitted}
 use Rattle.papergrid_csv.specs.Requests.{settings_of}

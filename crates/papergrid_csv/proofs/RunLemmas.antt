@@ -16,7 +16,7 @@ use Rattle.papergrid_draw.specs.Tiles.{IsTileFault}
 use Rattle.papergrid_draw.specs.declared.error.DrawError.{DrawError}
 use Rattle.papergrid_draw.specs.declared.error.DrawError.TheVariants as draw_errors
 use Rattle.papergrid_grid.specs.declared.crossings.Junctions.{Junctions}
-use Rattle.papergrid.specs.Estimates.{text_measure}
+use Rattle.papergrid_script.specs.Estimates.{text_measure}
 use Rattle.papergrid.specs.Layouts.{IsConfiguredBy}
 use Rattle.papergrid.specs.Pictures.{IsDrawingWith, IsRefusal, Undrawn, Unsized}
 use Rattle.papergrid_csv.specs.Pictures.{AreFitted, Faulty, IsCsvRun, IsCsvTable, IsConfigured, IsUnfitted, Unfitted}

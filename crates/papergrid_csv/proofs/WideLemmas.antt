@@ -26,7 +26,7 @@ use Rattle.papergrid_draw.proofs.HonestLemmas.{texts-honest}
 use Rattle.papergrid_draw.proofs.SettingLemmas.{with-separators}
 use Rattle.papergrid_draw.proofs.WidthLemmas.{lines-wide}
 use Rattle.papergrid_grid.specs.declared.crossings.Junctions.{Junctions}
-use Rattle.papergrid.specs.Estimates.{text_measure}
+use Rattle.papergrid_script.specs.Estimates.{text_measure}
 use Rattle.papergrid.specs.Layouts.{IsConfiguredBy}
 use Rattle.papergrid.specs.Pictures.{texts_drawing}
 use Rattle.papergrid.proofs.PictureLemmas.{lines-of-rows, room-with}

@@ -19,7 +19,7 @@ use Rattle.papergrid_draw.specs.declared.error.DrawError.TheVariants as draw_err
 use Rattle.papergrid_grid.specs.Cells.{lines_at, text_lines}
 use Rattle.papergrid_grid.specs.Lined.{lined}
 use Rattle.papergrid_text.proofs.RowSteps.{told_by}
-use Rattle.papergrid.specs.Estimates.{text_measure}
+use Rattle.papergrid_script.specs.Estimates.{text_measure}
 use Rattle.papergrid.specs.Layouts.{IsConfiguredBy}
 use Rattle.papergrid.specs.Pictures.{IsRefusal}
 use Rattle.papergrid.specs.ForProofs.Drawn.{IsSteady}

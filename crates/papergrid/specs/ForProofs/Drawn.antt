@@ -7,7 +7,7 @@ use Rattle.papergrid_draw.specs.declared.error.DrawError.{DrawError}
 use Rattle.papergrid_draw.specs.declared.error.DrawError.TheVariants as draw_errors
 use Rattle.papergrid_draw.specs.ForProofs.Sinks.{HasEnded}
 use Rattle.papergrid.specs.Pictures.{IsRefusal}
-use Rattle.papergrid.specs.declared.running.RunEnd.{RunEnd}
+use Rattle.papergrid_script.specs.declared.answer.RunEnd.{RunEnd}
 use Rattle.papergrid.specs.declared.running.RunFault.{RunFault}
 use Rattle.papergrid.specs.declared.running.RunFault.TheVariants as run_faults
 

@@ -5,7 +5,7 @@ use Rattle.papergrid_layout.specs.Tables.{AreNoSizesBySizing}
 use Rattle.papergrid_layout.specs.declared.sizing.Sizing.{Sizing}
 use Rattle.papergrid_tracks.specs.declared.error.LayoutError.TheVariants as layout_errors
 use Rattle.papergrid_draw.specs.declared.error.DrawError.TheVariants as draw_errors
-use Rattle.papergrid.specs.Estimates.{text_measure}
+use Rattle.papergrid_script.specs.Estimates.{text_measure}
 use Rattle.papergrid.specs.Pictures.{IsFaultWith}
 use Rattle.papergrid_builder.specs.Told.{longest}
 use Rattle.papergrid_builder.specs.declared.error.BuilderError.{BuilderError}

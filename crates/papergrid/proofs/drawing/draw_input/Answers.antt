@@ -1,8 +1,8 @@
 use Rattle.std.proofs.Common.{◌∙◌, ◌++◌, ◌∷◌, [], Err, Ok, ap}
 use Rattle.std.specs.Prelude.{codes, decimal}
-use Rattle.papergrid.specs.Texts.{newline}
+use Rattle.papergrid_script.specs.Texts.{newline}
 use Rattle.papergrid.specs.Pictures.{IsPictureRun, IsTablePicture}
-use Rattle.papergrid.specs.ForProofs.ScriptSeen.{table_seen}
+use Rattle.papergrid_script.specs.Seen.{table_seen}
 use Rattle.papergrid.proofs.PictureLemmas.{picture-run-of, runs-also}
 use Rattle.papergrid.proofs.drawing.draw_input.Goals as goal
 

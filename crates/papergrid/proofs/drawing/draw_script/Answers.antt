@@ -4,8 +4,8 @@ use Rattle.papergrid_grid.specs.Lined.{lined}
 use Rattle.papergrid.specs.Layouts.{IsConfiguredBy}
 use Rattle.papergrid.specs.Pictures.{IsDrawingWith, IsFaultWith}
 use Rattle.papergrid.specs.ForProofs.Drawn.{Draws}
-use Rattle.papergrid.specs.ForProofs.ScriptSeen.{rows_seen, table_seen}
-use Rattle.papergrid.specs.ForProofs.Settings.{setting_told}
+use Rattle.papergrid_script.specs.Seen.{rows_seen, table_seen}
+use Rattle.papergrid_script.specs.Settings.{setting_told}
 use Rattle.papergrid.proofs.PictureLemmas.{run-broken, run-drawn, run-refused}
 use Rattle.papergrid.proofs.drawing.draw_script.Goals as goal
 

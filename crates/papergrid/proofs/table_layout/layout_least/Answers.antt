@@ -1,6 +1,7 @@
 use Rattle.papergrid_walk.specs.Measures.{line_measure}
 use Rattle.papergrid.specs.Layouts.{IsLaidOutLeast}
-use Rattle.papergrid.proofs.GridLemmas.{configured_read, settings_read}
+use Rattle.papergrid_script.proofs.GridLemmas.{settings_read}
+use Rattle.papergrid.proofs.ConfiguredLemmas.{configured_read}
 use Rattle.papergrid.proofs.table_layout.layout_least.Goals as goal
 
 pub returns-clause-sizes : goal.returns-clause-sizes

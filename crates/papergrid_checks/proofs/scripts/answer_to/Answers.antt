@@ -1,5 +1,5 @@
 use Rattle.std.proofs.Common.{ap}
-use Rattle.papergrid.specs.Outputs.{output_of}
+use Rattle.papergrid_script.specs.Outputs.{output_of}
 use Rattle.papergrid_checks.proofs.WrittenLemmas.{begun}
 use Rattle.papergrid_checks.proofs.scripts.answer_to.Goals as goal
 

@@ -1,4 +1,4 @@
-use Rattle.papergrid.specs.Grids.{grid_of}
+use Rattle.papergrid_script.specs.Grids.{grid_of}
 use Rattle.papergrid_checks.specs.Rows.{cells_of, lent_measure}
 use Rattle.papergrid_checks.proofs.RowLemmas.{laid_told}
 use Rattle.papergrid_checks.proofs.settings.laid_out.Goals as goal

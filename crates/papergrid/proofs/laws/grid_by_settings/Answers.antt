@@ -1,5 +1,0 @@
-use Rattle.papergrid.proofs.GridLemmas.{grid_told}
-use Rattle.papergrid.proofs.laws.grid_by_settings.Goals as goal
-
-pub returns : goal.returns
-returns c = grid_told

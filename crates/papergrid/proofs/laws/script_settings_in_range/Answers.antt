@@ -1,5 +1,0 @@
-use Rattle.papergrid.proofs.RangeLemmas.{settings_in_range}
-use Rattle.papergrid.proofs.laws.script_settings_in_range.Goals as goal
-
-pub returns : goal.returns
-returns c = settings_in_range

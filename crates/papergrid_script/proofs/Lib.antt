@@ -1,0 +1,17 @@
+mod CharacterLemmas
+mod CutLemmas
+mod DraftLemmas
+mod EscapeLemmas
+mod EstimateLemmas
+pub mod GridLemmas
+mod LawLemmas
+mod LineLemmas
+mod ListedLemmas
+mod MarkLemmas
+mod RangeLemmas
+mod ReadLemmas
+mod ReasonLemmas
+mod ScriptLineLemmas
+mod SeenLemmas
+mod SpellLemmas
+mod TellsLemmas

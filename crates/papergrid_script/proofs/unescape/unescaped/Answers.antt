@@ -1,0 +1,31 @@
+use Rattle.std.proofs.Common.{◌≡◌, ◌<◌, ◌+◌, ℕ, List, length, take, drop, Option, IfOk, option_map, sym, subst, ap, ◌∙◌, arith}
+use Rattle.std.specs.List.{position_or_len}
+use Rattle.papergrid_text.proofs.Places.{is_there}
+use Rattle.papergrid_script.specs.Texts.{backslash}
+use Rattle.papergrid_script.specs.ForProofs.Escapes.{IsFirstEscape}
+use Rattle.papergrid_script.proofs.EscapeLemmas.{IsCut, is_backslash, cut_open, unescaped-whole}
+use Rattle.papergrid_script.proofs.unescape.unescaped.Goals as goal
+
+pub returns-then-spelled-escape : goal.returns-then-spelled-escape
+returns-then-spelled-escape c =
+    let first = c.requires in
+    let none = c.if-spelled-escape.true in
+    sym (unescaped-whole c.args.spelled.now (omega arith))
+
+pub split_around-requires-clause-ascii : goal.split_around-requires-clause-ascii
+split_around-requires-clause-ascii c =
+    let first = c.requires in
+    let within = c.if-spelled-escape.false in
+    let at = (is_there c.args.spelled.now backslash c.args.escape (omega arith) (omega arith)).1 in
+    omega arith
+
+cut_there : (spelled plain after : List ℕ) (at : ℕ) → IsFirstEscape spelled at → at < length spelled → plain ≡ take at spelled → after ≡ drop (at + 1) spelled → IsCut spelled plain after
+cut_there spelled plain after at first within before behind =
+    let place : at ≡ position_or_len is_backslash spelled = omega arith in
+    (before ∙ ap (λ k. take k spelled) place, behind ∙ ap (λ k. drop (k + 1) spelled) place, omega arith)
+
+pub returns : goal.returns
+returns c =
+    subst (λ (meant : Option (List ℕ)). IfOk c.with_escapes.result (λ found. option_map (λ text. text.now) found ≡ meant))
+    (sym (cut_open _ _ _ (cut_there c.args.spelled.now _ _ c.args.escape c.requires c.if-spelled-escape.false c.split_around.ensures.before c.split_around.ensures.after)))
+    c.with_escapes.ensures

@@ -1,0 +1,15 @@
+pub mod Estimates
+pub mod Grammar
+pub mod Grids
+pub mod Outputs
+pub mod Reasons
+pub mod Rows
+pub mod ScriptLines
+pub mod Scripts
+pub mod Seen
+pub mod Settings
+pub mod Spelling
+pub mod Tells
+pub mod Texts
+pub mod Totals
+pub mod ForProofs

@@ -1,0 +1,69 @@
+-- What the program writes for an input, and how it ends.
+use Rattle.std.specs.Prelude.{ℕ, List, [], ◌∷◌, ◌++◌, Option, Some, None, Result, Ok, Err, codes, decimal, flat_map}
+use Rattle.papergrid_values.specs.declared.position.Position.{Position}
+use Rattle.papergrid_layout.specs.declared.sizing.Sizing.{Sizing}
+use Rattle.papergrid_layout.specs.declared.sizing.Sizing.TheVariants.{ByShares}
+use Rattle.papergrid_script.specs.declared.answer.RunEnd.{RunEnd}
+use Rattle.papergrid_script.specs.declared.answer.RunEnd.TheVariants.{Done, Refused, BadScript}
+use Rattle.papergrid_script.specs.Grammar.{space, comma}
+use Rattle.papergrid_script.specs.Scripts.{Table, table_of}
+use Rattle.papergrid_script.specs.Estimates.{Estimate, OutOfTable, TooLarge, Sized, estimate_of}
+use Rattle.papergrid_script.specs.Texts.{newline}
+
+-- a space and a number for each
+abbrev pub spaced_numbers : List ℕ → List ℕ
+spaced_numbers numbers = flat_map (λ n. space ∷ decimal n) numbers
+
+-- a line of a word and numbers
+abbrev pub number_line : List ℕ → List ℕ → List ℕ
+number_line word numbers = word ++ spaced_numbers numbers ++ newline ∷ []
+
+-- a space, a row, a comma and a column for each
+abbrev pub spaced_places : List Position → List ℕ
+spaced_places places = flat_map (λ place. space ∷ (decimal place.row ++ (comma ∷ decimal place.col))) places
+
+-- the cells that certify, by their positions, or that there are none such
+abbrev pub certificate_line : List ℕ → Option (List Position) → List ℕ
+certificate_line word None = word ++ codes " none" ++ newline ∷ []
+certificate_line word (Some places) = word ++ spaced_places places ++ newline ∷ []
+
+-- the lines that are written of an estimate
+abbrev pub estimate_text : Estimate → List ℕ
+estimate_text (OutOfTable place) = codes "refused: out of table at " ++ (decimal place.row ++ (comma ∷ (decimal place.col ++ newline ∷ [])))
+estimate_text TooLarge = codes "refused: too large" ++ newline ∷ []
+estimate_text (Sized widths heights total_width total_height width_witness height_witness) =
+    number_line (codes "widths") widths ++ number_line (codes "heights") heights
+    ++ number_line (codes "total") (total_width ∷ total_height ∷ [])
+    ++ certificate_line (codes "witness widths") width_witness ++ certificate_line (codes "witness heights") height_witness
+
+-- the lines that are written of a script: its first bad line, or the estimate of its table
+abbrev pub script_text : Sizing → Result Table ℕ → List ℕ
+script_text sizing (Err number) = codes "bad script at line " ++ decimal number ++ newline ∷ []
+script_text sizing (Ok table) = estimate_text (estimate_of sizing table)
+
+-- how a run ends that writes an estimate
+abbrev pub estimate_end : Estimate → RunEnd
+estimate_end (OutOfTable place) = Refused
+estimate_end TooLarge = Refused
+estimate_end (Sized widths heights total_width total_height width_witness height_witness) = Done
+
+-- how a run ends on a script
+abbrev pub script_end : Sizing → Result Table ℕ → RunEnd
+script_end sizing (Err number) = BadScript
+script_end sizing (Ok table) = estimate_end (estimate_of sizing table)
+
+-- the bytes that are written for an input, where sizes are chosen so
+unfoldable pub output_by : Sizing → List ℕ → List ℕ
+output_by sizing input = script_text sizing (table_of input)
+
+-- how its run ends
+unfoldable pub end_by : Sizing → List ℕ → RunEnd
+end_by sizing input = script_end sizing (table_of input)
+
+-- by shares
+abbrev pub output_of : List ℕ → List ℕ
+output_of input = output_by ByShares input
+
+-- how a run by shares ends
+abbrev pub run_end_of : List ℕ → RunEnd
+run_end_of input = end_by ByShares input

@@ -1,0 +1,26 @@
+-- What the lines of a script set, as settings of a configuration.
+use Rattle.std.specs.Prelude.{ℕ, Some}
+use Rattle.papergrid_values.specs.declared.indent.Indent.{Indent}
+use Rattle.papergrid_values.specs.declared.sides.Sides.{Sides}
+use Rattle.papergrid_values.specs.Borders.{frame_with}
+use Rattle.papergrid_config.specs.declared.setting.Setting.{Setting}
+use Rattle.papergrid_config.specs.declared.setting.Setting.TheVariants.{SetPadding, SetColumnSpan, SetRowSpan, SetBorders, InsertVerticalLine, InsertHorizontalLine, RemoveVerticalLine, RemoveHorizontalLine}
+use Rattle.papergrid_script.specs.declared.script_setting.ScriptSetting.{ScriptSetting}
+use Rattle.papergrid_script.specs.declared.script_setting.ScriptSetting.TheVariants.{Padding, ColumnSpan, RowSpan, Border, VerticalLine, HorizontalLine, NoVerticalLine, NoHorizontalLine}
+use Rattle.papergrid_maps.specs.Compact.{spaces}
+use Rattle.papergrid_script.specs.Grammar.{horizontal_main, vertical_main}
+
+-- so many spaces on each side
+abbrev pub spaced_sides : Sides ℕ → Sides Indent
+spaced_sides sides = record { top = spaces sides.top; bottom = spaces sides.bottom; left = spaces sides.left; right = spaces sides.right }
+
+-- the setting of a configuration that a setting of a script is
+abbrev pub setting_told : ScriptSetting → Setting
+setting_told (Padding entity sides) = SetPadding entity (spaced_sides sides)
+setting_told (ColumnSpan place count) = SetColumnSpan place count
+setting_told (RowSpan place count) = SetRowSpan place count
+setting_told (Border c) = SetBorders (frame_with (Some c))
+setting_told (VerticalLine col c) = InsertVerticalLine col (vertical_main c)
+setting_told (HorizontalLine row c) = InsertHorizontalLine row (horizontal_main c)
+setting_told (NoVerticalLine col) = RemoveVerticalLine col 0
+setting_told (NoHorizontalLine row) = RemoveHorizontalLine row 0

@@ -1,0 +1,74 @@
+//! What an input comes to: how its run ends, and what is written.
+
+ghost use Rattle.std.specs.Prelude.{◌≡◌, IfOk};
+ghost use Rattle.papergrid_script.specs.Estimates.{estimate_of};
+ghost use Rattle.papergrid_script.specs.Outputs.{end_by, estimate_end, estimate_text, output_by};
+ghost use Rattle.papergrid_script.specs.Seen.{table_seen};
+ghost use Rattle.papergrid_script.specs.ForProofs.Sized.{GivesEstimate};
+
+use crate::estimate::{Sizes, estimate};
+use crate::output::{bad_script_text, out_of_table_text, sizes_text, too_large_text};
+use crate::script::{Script, ScriptError, read_script};
+use crate::script_setting::configuration_of;
+use bumpalo::Bump;
+use papergrid_layout::{LayoutError, Sizing};
+use papergrid_text::IterRecords;
+use std::alloc::{AllocError, Global};
+
+/// How a run ended that read its whole input and wrote its whole output.
+#[derive(Clone, Copy, Debug, PartialEq, Eq)]
+pub enum RunEnd {
+    /// The sizes were written.
+    Done,
+    /// The table has no sizes, and why was written: the first visible cell that overflows it, or
+    /// that a total with the lines of the table is too large.
+    Refused,
+    /// The script has a bad line, and its number was written.
+    BadScript,
+}
+
+/// How the run of an input ends, and what is written.
+#[tactic(auto, unfolding(crate::specs::Outputs::output_by, crate::specs::Outputs::end_by))]
+pub fn answer(alloc: Global, sizing: Sizing, input: &[u8]) -> Result<(RunEnd, Vec<u8>), AllocError>
+    ensures end { IfOk result (λ answer. answer.0 ≡ end_by sizing input.now) }
+    ensures text { IfOk result (λ answer. answer.1.items ≡ output_by sizing input.now) }
+{
+    let texts = Bump::new(alloc);
+    match read_script(alloc, &texts, input) {
+        Err(ScriptError::Memory) => Err(AllocError),
+        Err(ScriptError::Bad(number)) => Ok((RunEnd::BadScript, bad_script_text(alloc, number)?)),
+        Ok(script) => table_answer(alloc, sizing, script),
+    }
+}
+
+/// How the run of a script ends, and what is written.
+fn table_answer(
+    alloc: Global,
+    sizing: Sizing,
+    script: Script<'_>,
+) -> Result<(RunEnd, Vec<u8>), AllocError>
+    ensures end { IfOk result (λ answer. answer.0
+        ≡ estimate_end (estimate_of sizing (table_seen script.entry))) }
+    ensures text { IfOk result (λ answer. answer.1.items
+        ≡ estimate_text (estimate_of sizing (table_seen script.entry))) }
+{
+    match table_sizes(alloc, sizing, script) {
+        Err(LayoutError::Memory(error)) => Err(error),
+        Err(LayoutError::OutOfTable(position)) => {
+            Ok((RunEnd::Refused, out_of_table_text(alloc, position)?))
+        }
+        Err(LayoutError::TooLarge) => Ok((RunEnd::Refused, too_large_text(alloc)?)),
+        Ok(sizes) => Ok((RunEnd::Done, sizes_text(alloc, &sizes)?)),
+    }
+}
+
+/// The sizes of the table that a script tells.
+fn table_sizes(alloc: Global, sizing: Sizing, script: Script<'_>) -> Result<Sizes, LayoutError>
+    ensures { GivesEstimate result (λ answer.
+        answer ≡ estimate_of sizing (table_seen script.entry)) }
+{
+    let config = configuration_of(alloc, script.settings)?;
+    let (columns, count) = (script.columns, script.rows.len());
+    let records = IterRecords::new(script.rows, columns, Some(count));
+    estimate(alloc, sizing, records, &config)
+}

@@ -1,0 +1,17 @@
+//! Scripts that tell a table: their lines, and the settings and the rows that they tell. The sizes of that table, and what is
+//! written of them.
+#![tactic(auto)]
+
+pub mod answer;
+mod cut;
+mod draft;
+mod estimate;
+pub mod explained;
+pub mod laws;
+mod number;
+pub mod output;
+pub mod script;
+mod script_line;
+pub mod script_setting;
+mod setting_line;
+mod unescape;

@@ -1,0 +1,113 @@
+//! The text that the program writes.
+
+ghost use Rattle.std.specs.Prelude.{◌≡◌, ◌∷◌, ◌++◌, [], IfOk, OnOk, codes, decimal};
+ghost use Rattle.papergrid_script.specs.Estimates.{OutOfTable, TooLarge};
+ghost use Rattle.papergrid_script.specs.Outputs.{estimate_text, number_line, spaced_places, certificate_line};
+ghost use Rattle.papergrid_script.specs.ForProofs.Sized.{sizes_seen};
+ghost use Rattle.papergrid_layout.specs.Certificates.{places_of};
+
+use crate::estimate::Sizes;
+use itoa::Buffer;
+use papergrid_values::Position;
+use std::alloc::{AllocError, Global};
+
+/// The lines `widths`, `heights`, `total`, `witness widths` and `witness heights`.
+pub fn sizes_text(alloc: Global, sizes: &Sizes) -> Result<Vec<u8>, AllocError>
+    ensures { IfOk result (λ text. text.items ≡ estimate_text (sizes_seen sizes.now)) }
+{
+    let mut text = Vec::new(alloc);
+    let certified = &sizes.certified;
+    push_line(&mut text, b"widths", certified.widths.as_slice())?;
+    push_line(&mut text, b"heights", certified.heights.as_slice())?;
+    let totals = [sizes.total_width, sizes.total_height];
+    push_line(&mut text, b"total", totals.as_slice())?;
+    push_certificate(&mut text, b"witness widths", &certified.width_witness)?;
+    push_certificate(&mut text, b"witness heights", &certified.height_witness)?;
+    Ok(text)
+}
+
+/// Adds a line: the word, and a space and a number for each.
+fn push_line(text: &mut Vec<u8>, word: &[u8], numbers: &[usize]) -> Result<(), AllocError>
+    ensures { OnOk result (text.new.items ≡ text.old.items ++ number_line word.now numbers.now) }
+{
+    text.extend_from_slice(word)?;
+    // Each takes two bytes at least.
+    text.reserve(2 * numbers.len())?;
+    for number in numbers {
+        text.push(b' ')?;
+        push_number(text, *number)?;
+    }
+    text.push(b'\n')?;
+    Ok(())
+}
+
+/// Adds a line: the word, and the cells that certify sizes, or that there are none such.
+fn push_certificate(
+    text: &mut Vec<u8>,
+    word: &[u8],
+    witness: &Option<Vec<Position>>,
+) -> Result<(), AllocError>
+    ensures { OnOk result (text.new.items ≡ text.old.items ++ certificate_line word.now
+        (places_of witness.now)) }
+{
+    text.extend_from_slice(word)?;
+    match witness {
+        None => text.extend_from_slice(b" none")?,
+        Some(places) => push_places(text, places.as_slice())?,
+    }
+    text.push(b'\n')?;
+    Ok(())
+}
+
+/// Adds a space, the row, a comma and the column for each.
+fn push_places(text: &mut Vec<u8>, places: &[Position]) -> Result<(), AllocError>
+    ensures { OnOk result (text.new.items ≡ text.old.items ++ spaced_places places.now) }
+{
+    // Each takes four bytes at least.
+    text.reserve(4 * places.len())?;
+    for place in places {
+        text.push(b' ')?;
+        push_number(text, place.row)?;
+        text.push(b',')?;
+        push_number(text, place.col)?;
+    }
+    Ok(())
+}
+
+/// Adds the digits of the number. Most numbers of a table have one.
+#[tactic(auto, using(std::proofs::lemmas::Fmt::decimal_digit))]
+fn push_number(text: &mut Vec<u8>, number: usize) -> Result<(), AllocError>
+    ensures { OnOk result (text.new.items ≡ text.old.items ++ decimal number) }
+{
+    if number < 10 {
+        text.push(b'0' + number as u8)?;
+        return Ok(());
+    }
+    let mut digits = Buffer::new();
+    text.extend_from_slice(digits.format(number).as_bytes())
+}
+
+/// The line for a cell out of the table.
+pub fn out_of_table_text(alloc: Global, position: Position) -> Result<Vec<u8>, AllocError>
+    ensures { IfOk result (λ text. text.items ≡ estimate_text (OutOfTable position)) }
+{
+    let Position { row, col } = position;
+    let text = format!(in alloc; "refused: out of table at {row},{col}\n")?;
+    Ok(text.into_bytes())
+}
+
+/// The line for totals past the greatest number.
+pub fn too_large_text(alloc: Global) -> Result<Vec<u8>, AllocError>
+    ensures { IfOk result (λ text. text.items ≡ estimate_text TooLarge) }
+{
+    Vec::from_slice(alloc, b"refused: too large\n")
+}
+
+/// The line for a bad script.
+pub fn bad_script_text(alloc: Global, number: usize) -> Result<Vec<u8>, AllocError>
+    ensures { IfOk result (λ text. text.items
+        ≡ codes "bad script at line " ++ decimal number ++ 10 ∷ []) }
+{
+    let text = format!(in alloc; "bad script at line {number}\n")?;
+    Ok(text.into_bytes())
+}
