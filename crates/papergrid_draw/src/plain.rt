@@ -71,62 +71,62 @@ impl PlainLines {
             None => Ok(()),
         }
     }
+}
 
-    /// Adds the text line of a row that is one line high.
-    pub fn push_text_line<'a, S: Cells>(
-        &self,
-        frame: &Frame<'a>,
-        cells: &'a S,
-        row: usize,
-        line: &mut String,
-    ) -> Result<(), AllocError>
-    where
-        S::Cell: Drop,
-        requires frame { IsFrame frame.now.table.now frame.now }
-        requires plain { IsPlain frame.now.table.now.config }
-        requires own { ArePlainLines frame.now.table.now self.now }
-        requires row_in { row < length frame.now.table.now.heights }
-        requires low { slice_index frame.now.table.now.heights row ≡ 1 }
-        ensures { let d = drawn_of S.lines S.color frame.now.table.now cells.now in
-            OnOk result (string_bytes line.new
-            ≡ string_bytes line.old ++ pieces_bytes (text_line d row 0)) }
-    {
-        for col in 0..frame.shape.1 {
-            self.push_vertical(col, line)?;
-            push_cell(frame, cells, Position { row, col }, line)?;
-        }
-        self.push_vertical(frame.shape.1, line)
+/// Adds the text line of a row that is one line high.
+pub fn push_plain_text_line<'a, S: Cells>(
+    frame: &Frame<'a>,
+    lines: &PlainLines,
+    cells: &'a S,
+    row: usize,
+    line: &mut String,
+) -> Result<(), AllocError>
+where
+    S::Cell: Drop,
+    requires frame { IsFrame frame.now.table.now frame.now }
+    requires plain { IsPlain frame.now.table.now.config }
+    requires own { ArePlainLines frame.now.table.now lines.now }
+    requires row_in { row < length frame.now.table.now.heights }
+    requires low { slice_index frame.now.table.now.heights row ≡ 1 }
+    ensures { let d = drawn_of S.lines S.color frame.now.table.now cells.now in
+        OnOk result (string_bytes line.new
+        ≡ string_bytes line.old ++ pieces_bytes (text_line d row 0)) }
+{
+    for col in 0..frame.shape.1 {
+        lines.push_vertical(col, line)?;
+        push_cell(frame, cells, Position { row, col }, line)?;
     }
+    lines.push_vertical(frame.shape.1, line)
+}
 
-    /// Adds the horizontal line before a row, or after the last.
-    pub fn push_rule_line(
-        &mut self,
-        alloc: Global,
-        frame: &Frame<'_>,
-        row: usize,
-        line: &mut String,
-    ) -> Result<(), AllocError>
-        requires frame { IsFrame frame.now.table.now frame.now }
-        requires plain { IsPlain frame.now.table.now.config }
-        requires own { ArePlainLines frame.now.table.now self.old }
-        requires row_in { row ≤ length frame.now.table.now.heights }
-        ensures bytes { OnOk result ((texts : Texts) →
-            string_bytes line.new ≡ string_bytes line.old
-            ++ rule_bytes (rule_line (drawing_of frame.now.table.now texts) row)) }
-        ensures own { OnOk result (ArePlainLines frame.now.table.now self.new) }
-    {
-        if !is_common_rule(frame, row) {
-            return push_own_rule(frame, row, line);
-        }
-        if let Some(rule) = &self.rule {
-            return line.push_str(rule.as_str());
-        }
-        let mut rule = String::new(alloc);
-        push_own_rule(frame, row, &mut rule)?;
-        line.push_str(rule.as_str())?;
-        self.rule = Some(rule);
-        Ok(())
+/// Adds the horizontal line before a row, or after the last.
+pub fn push_plain_rule_line(
+    alloc: Global,
+    frame: &Frame<'_>,
+    lines: &mut PlainLines,
+    row: usize,
+    line: &mut String,
+) -> Result<(), AllocError>
+    requires frame { IsFrame frame.now.table.now frame.now }
+    requires plain { IsPlain frame.now.table.now.config }
+    requires own { ArePlainLines frame.now.table.now lines.old }
+    requires row_in { row ≤ length frame.now.table.now.heights }
+    ensures bytes { OnOk result ((texts : Texts) →
+        string_bytes line.new ≡ string_bytes line.old
+        ++ rule_bytes (rule_line (drawing_of frame.now.table.now texts) row)) }
+    ensures own { OnOk result (ArePlainLines frame.now.table.now lines.new) }
+{
+    if !is_common_rule(frame, row) {
+        return push_own_rule(frame, row, line);
     }
+    if let Some(rule) = &lines.rule {
+        return line.push_str(rule.as_str());
+    }
+    let mut rule = String::new(alloc);
+    push_own_rule(frame, row, &mut rule)?;
+    line.push_str(rule.as_str())?;
+    lines.rule = Some(rule);
+    Ok(())
 }
 
 /// The character of the vertical line before a column, or after the last, if there is one.

@@ -10,7 +10,7 @@ ghost use Rattle.papergrid_draw.specs.ForProofs.Sheets.{WritesLines, margined, f
 use crate::delivery::Delivery;
 use crate::error::DrawError;
 use crate::page::Frame;
-use crate::plain::{PlainLines, plain_slots};
+use crate::plain::{PlainLines, plain_slots, push_plain_rule_line, push_plain_text_line};
 use crate::rows::{begin_beside, draw_text_lines, end_beside};
 use crate::sheet::Sheet;
 use crate::source::Cells;
@@ -99,7 +99,7 @@ fn draw_plain_rule<D: Delivery<W>, W>(
         return Ok(());
     }
     begin_beside(frame, sheet)?;
-    lines.push_rule_line(alloc, frame, row, &mut sheet.line)?;
+    push_plain_rule_line(alloc, frame, lines, row, &mut sheet.line)?;
     end_beside::<D, W>(frame, sheet, writer)
 }
 
@@ -128,7 +128,7 @@ where
         OnOk result (sheet.new.written ≡ text_start d row + 1) }
 {
     begin_beside(frame, sheet)?;
-    lines.push_text_line(frame, cells, row, &mut sheet.line)?;
+    push_plain_text_line(frame, lines, cells, row, &mut sheet.line)?;
     end_beside::<D, W>(frame, sheet, writer)
 }
 

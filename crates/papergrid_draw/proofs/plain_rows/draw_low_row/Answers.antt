@@ -16,9 +16,9 @@ returns-in_err-begin_beside-clause-lines g c =
     let p = err_from_is_err_and c.from_residual.result c.from_residual.ensures.1 in
     rw (p.1, p.2) (lines-refused g.D.Delivery.takes g.D.Delivery.breaks _ _ _ _ _)
 
-pub returns-in_err-push_text_line-clause-lines : goal.returns-in_err-push_text_line-clause-lines
-returns-in_err-push_text_line-clause-lines g c =
-    let p = err_from_is_err_and c.from_residual-in_err-push_text_line.result c.from_residual-in_err-push_text_line.ensures.1 in
+pub returns-in_err-push_plain_text_line-clause-lines : goal.returns-in_err-push_plain_text_line-clause-lines
+returns-in_err-push_plain_text_line-clause-lines g c =
+    let p = err_from_is_err_and c.from_residual-in_err-push_plain_text_line.result c.from_residual-in_err-push_plain_text_line.ensures.1 in
     rw (p.1, p.2) (lines-refused g.D.Delivery.takes g.D.Delivery.breaks _ _ _ _ _)
 
 pub end_beside-requires : goal.end_beside-requires
@@ -39,6 +39,6 @@ returns-clause-lines g c =
     (one-margined d g.D.Delivery.takes g.D.Delivery.breaks _ _ _ _ c.args.sheet.now.written _ (TextLine (text_line d c.args.row 0)) _ _ _
     c.in_ok-begin_beside.ensures.written
     (c.in_ok-begin_beside.ensures.line parts texts c.requires.frame)
-    c.in_ok-push_text_line.ensures
+    c.in_ok-push_plain_text_line.ensures
     (c.end_beside.ensures.bytes parts texts c.requires.frame)
     c.end_beside.ensures.begun)

@@ -34,9 +34,9 @@ returns-in_err-begin_beside-clause-lines g c =
     let p = err_from_is_err_and c.from_residual.result c.from_residual.ensures.1 in
     rw (p.1, p.2) (λ texts. lines-refused g.D.Delivery.takes g.D.Delivery.breaks _ _ _ _ _)
 
-pub returns-in_err-push_rule_line-clause-lines : goal.returns-in_err-push_rule_line-clause-lines
-returns-in_err-push_rule_line-clause-lines g c =
-    let p = err_from_is_err_and c.from_residual-in_err-push_rule_line.result c.from_residual-in_err-push_rule_line.ensures.1 in
+pub returns-in_err-push_plain_rule_line-clause-lines : goal.returns-in_err-push_plain_rule_line-clause-lines
+returns-in_err-push_plain_rule_line-clause-lines g c =
+    let p = err_from_is_err_and c.from_residual-in_err-push_plain_rule_line.result c.from_residual-in_err-push_plain_rule_line.ensures.1 in
     rw (p.1, p.2) (λ texts. lines-refused g.D.Delivery.takes g.D.Delivery.breaks _ _ _ _ _)
 
 pub end_beside-requires : goal.end_beside-requires
@@ -63,7 +63,7 @@ returns-clause-lines g c = λ texts.
     (one-margined d g.D.Delivery.takes g.D.Delivery.breaks _ _ _ _ c.args.sheet.now.written _ (RuleLine (rule_line d c.args.row)) _ _ _
     c.in_ok-begin_beside.ensures.written
     (c.in_ok-begin_beside.ensures.line parts texts c.requires.frame)
-    (c.in_ok-push_rule_line.ensures.bytes texts)
+    (c.in_ok-push_plain_rule_line.ensures.bytes texts)
     (c.end_beside.ensures.bytes parts texts c.requires.frame)
     c.end_beside.ensures.begun))
 

@@ -6,7 +6,7 @@ use Rattle.papergrid_draw.specs.Drawn.{rule_line}
 use Rattle.papergrid_draw.specs.ForProofs.Pages.{drawing_of}
 use Rattle.papergrid_draw.proofs.PenLemmas.{on_ok_added}
 use Rattle.papergrid_draw.proofs.PlainRuleLemmas.{rule-same}
-use Rattle.papergrid_draw.proofs.plain.PlainLines.push_rule_line.Goals as goal
+use Rattle.papergrid_draw.proofs.plain.push_plain_rule_line.Goals as goal
 
 pub returns-in-Some-clause-bytes : goal.returns-in-Some-clause-bytes
 returns-in-Some-clause-bytes c = on_ok_weaker c.push_str.result (λ added texts. added

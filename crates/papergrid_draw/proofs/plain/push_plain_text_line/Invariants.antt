@@ -3,7 +3,7 @@ use Rattle.std.specs.List.{flat_map, range_with_len}
 use Rattle.papergrid_draw.specs.Bytes.{pieces_bytes}
 use Rattle.papergrid_draw.specs.Drawings.{drawn_of}
 use Rattle.papergrid_draw.specs.Drawn.{column_pieces}
-use Rattle.papergrid_draw.proofs.plain.PlainLines.push_text_line.Given as goal
+use Rattle.papergrid_draw.proofs.plain.push_plain_text_line.Given as goal
 
 abbrev pub invariant-loop-col : goal.invariant-loop-col
 invariant-loop-col g l =

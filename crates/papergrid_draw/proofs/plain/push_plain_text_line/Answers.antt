@@ -9,7 +9,7 @@ use Rattle.papergrid_draw.specs.ForProofs.Sheets.{told_texts}
 use Rattle.papergrid_draw.proofs.LineLemmas.{added-pieces, column-more, frame-columns, line-done}
 use Rattle.papergrid_draw.proofs.PlainLemmas.{plain-column}
 use Rattle.papergrid_draw.proofs.RuleLemmas.{columns-all}
-use Rattle.papergrid_draw.proofs.plain.PlainLines.push_text_line.Goals as goal
+use Rattle.papergrid_draw.proofs.plain.push_plain_text_line.Goals as goal
 
 pub push_vertical-requires : goal.push_vertical-requires
 push_vertical-requires g c = (c.args.frame.now.table.now, c.requires.own, (let wide = frame-columns c.requires.frame in omega (arith, wide)))
