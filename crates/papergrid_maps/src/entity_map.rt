@@ -4,6 +4,7 @@ ghost use Rattle.std.specs.Prelude.{All, AllPairs, Any, true, false, List, ◌�
 ghost use Rattle.std.specs.Bool.{OnTrue, OnFalse};
 ghost use Rattle.std.specs.Fn.{FnReturnsAt};
 ghost use Rattle.std.specs.HashMap.{IsUnique, keys, values, get as map_get};
+ghost use Rattle.std.specs.Map.{update_all};
 ghost use Rattle.std.specs.Set.{is_member};
 ghost use Rattle.papergrid_values.specs.declared.entity.Entity.{Entity};
 ghost use Rattle.papergrid_values.specs.declared.position.Position.{Position};
@@ -14,7 +15,7 @@ ghost use Rattle.papergrid_maps.specs.MapCalls.{effective_value, may_grow};
 ghost use Rattle.papergrid_maps.specs.StoredMap.{HasMapHistory, AppendsCalls, HasNothing, HoldsValue, held_for, stored_value};
 ghost use Rattle.papergrid_maps.specs.declared.entity_map.MapCall.{MapCall};
 
-use papergrid_values::hashed::{look_up, put, remove};
+use papergrid_values::hashed::{look_up, put, remove, write};
 use papergrid_values::{Entity, Position};
 use std::alloc::{AllocError, Global};
 use std::collections::HashMap;
@@ -171,16 +172,11 @@ impl<T> EntityMap<T> {
             cells,
         } = self;
         let mut all = HashMap::new(alloc);
-        let columns = columns.into_iter();
-        all.extend(columns.map(|(col, value)| (Entity::Column(col), value)))?;
-        let rows = rows.into_iter();
-        all.extend(rows.map(|(row, value)| (Entity::Row(row), value)))?;
-        let cells = cells.into_iter();
-        all.extend(cells.map(|(cell, value)| (Entity::Cell(cell.row, cell.col), value)))?;
-        match all.insert(Entity::Global, global) {
-            Ok(_) => Ok(all),
-            Err(_) => Err(AllocError),
-        }
+        put_all(&mut all, columns, Entity::Column)?;
+        put_all(&mut all, rows, Entity::Row)?;
+        put_all(&mut all, cells, |cell| Entity::Cell(cell.row, cell.col))?;
+        write(&mut all, Entity::Global, global)?;
+        Ok(all)
     }
 }
 
@@ -320,6 +316,27 @@ impl<T: Clone> EntityMap<T> {
             }
         }
     }
+}
+
+// Puts what a map has into `all`, each value for the entity of its key.
+fn put_all<K: Eq + Hash + Drop, T: Drop, F: Fn(K) -> Entity>(
+    all: &mut HashMap<Entity, T>,
+    values: HashMap<K, T>,
+    entity: F,
+) -> Result<(), AllocError>
+where
+    F: Drop,
+    requires { F.IsAlwaysCallable entity }
+    ensures unique { IsUnique K.eq values }
+    ensures ok { OnOk result ((of : K → Entity) →
+        ((k : K) (e : Entity) → F.post entity k e → e ≡ of k) →
+        HasAtEach entity_eq all.new (update_all entity_eq (map_get entity_eq all.old)
+        (map (λ e. (of e.0, e.1)) values.entries))) }
+{
+    for (key, value) in values {
+        write(all, entity(key), value)?;
+    }
+    Ok(())
 }
 
 // The cells that have a value.
