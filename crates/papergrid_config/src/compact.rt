@@ -38,11 +38,21 @@ fn owned_sides(
     ensures { IfOk result (λ sides. sides ≡ colored_sides colors.now) }
 {
     let mut sides = Sides::new(None, None, None, None);
+    copy_sides(alloc, colors, &mut sides)?;
+    Ok(sides)
+}
+
+fn copy_sides(
+    alloc: Global,
+    colors: &Sides<ANSIStr<'static>>,
+    sides: &mut Sides<Option<ANSIBuf>>,
+) -> Result<(), AllocError>
+    ensures { OnOk result (sides.new ≡ colored_sides colors.now) }
+{
     copy_part(alloc, &Some(colors.top), &mut sides.top)?;
     copy_part(alloc, &Some(colors.bottom), &mut sides.bottom)?;
     copy_part(alloc, &Some(colors.left), &mut sides.left)?;
-    copy_part(alloc, &Some(colors.right), &mut sides.right)?;
-    Ok(sides)
+    copy_part(alloc, &Some(colors.right), &mut sides.right)
 }
 
 // Copies of the colours of a frame.
