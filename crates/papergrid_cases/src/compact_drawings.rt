@@ -44,7 +44,7 @@ impl Subject for CompactDrawings {
             "|" => self.texts.push(words.cells()?)?,
             "columns" => self.columns = Some(words.number()),
             "widths" => self.widths = Some(numbers_to(words, "")?),
-            "color" => add_color(&mut self.colors, words)?,
+            "color" => return add_color(&mut self.colors, words),
             _ => self.config = with_setting(self.config, word, words),
         }
         Ok(())

@@ -7,7 +7,8 @@ use crate::pair::Kind;
 use crate::reading::Words;
 use crate::running::{Outcome, Subject};
 use crate::size_questions::Sizes;
-use crate::table_cases::numbers_to;
+use crate::table::row_of;
+use crate::table_cases::tell_sizes;
 use papergrid::grid::{DrawError, RecordCells, Room, draw_cells};
 use papergrid::{Sizing, Table, WriteSink};
 use papergrid_layout::LayoutError;
@@ -47,13 +48,13 @@ impl Subject for DrawingCases {
 
     fn tell(&mut self, word: &str, words: &mut Words<'_>) -> Outcome {
         match word {
-            "|" => self.add_row(words)?,
+            "|" => return add_row(&mut self.texts, &mut self.measured, words),
             "columns" => self.columns = Some(words.number()),
             "rows" => self.count_rows = Some(words.number()),
             "plain" => self.is_plain = true,
-            "sizes" => self.sizes = Some((numbers_to(words, "|")?, numbers_to(words, "")?)),
-            "color" => add_color(&mut self.colors, words)?,
-            _ => self.config.tell(word, words)?,
+            "sizes" => return tell_sizes(&mut self.sizes, words),
+            "color" => return add_color(&mut self.colors, words),
+            _ => return self.config.tell(word, words),
         }
         Ok(())
     }
@@ -72,17 +73,6 @@ impl Subject for DrawingCases {
 }
 
 impl DrawingCases {
-    /// Adds a row of cells between bars.
-    fn add_row(&mut self, words: &mut Words<'_>) -> Outcome {
-        let (texts, mut measured) = (words.cells()?, Vec::new(self.alloc));
-        for text in &texts {
-            measured.push(Text::new(self.alloc, text.clone()?)?)?;
-        }
-        self.texts.push(texts)?;
-        self.measured.push(measured)?;
-        Ok(())
-    }
-
     /// Draws the table.
     fn picture(&self) -> Result<Vec<u8>, DrawError> {
         let mut written = Vec::new(self.alloc);
@@ -120,6 +110,18 @@ impl DrawingCases {
         let records = IterRecords::new(self.texts.as_slice(), columns, self.count_rows);
         Table::new(self.alloc, config, records, Sizing::ByShares)
     }
+}
+
+/// Adds a row of cells between bars, as texts and as measured texts.
+fn add_row(
+    texts: &mut Vec<Vec<String>>,
+    measured: &mut Vec<Vec<Text<String>>>,
+    words: &mut Words<'_>,
+) -> Outcome {
+    let row = words.cells()?;
+    measured.push(row_of(words.alloc(), &row)?)?;
+    texts.push(row)?;
+    Ok(())
 }
 
 /// Gives the cell at the position that is told next the colour that is told after it.

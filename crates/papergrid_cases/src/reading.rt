@@ -156,11 +156,14 @@ impl<'a> Words<'a> {
     }
 
     pub fn flag(&mut self) -> bool {
-        let word = self.word();
-        if word != "true" && word != "false" {
-            self.lacks("true or false");
+        match self.word() {
+            "true" => true,
+            "false" => false,
+            _ => {
+                self.lacks("true or false");
+                false
+            }
         }
-        word == "true"
     }
 
     /// The next character, whether a space follows or not.

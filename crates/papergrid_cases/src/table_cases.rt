@@ -5,6 +5,7 @@ use crate::certificate_questions::ask_certificates;
 use crate::reading::Words;
 use crate::run_questions::ask_run;
 use crate::running::{Outcome, Subject};
+use crate::size_questions::Sizes;
 use crate::table::{Table, Told, add_line};
 use bumpalo::Bump;
 use papergrid::script::{Script, ScriptError, read_script};
@@ -18,7 +19,7 @@ pub struct TableCases {
     alloc: Global,
     script: String,
     count_rows: usize,
-    sizes: Option<(Vec<usize>, Vec<usize>)>,
+    sizes: Option<Sizes>,
 }
 
 impl Subject for TableCases {
@@ -36,15 +37,10 @@ impl Subject for TableCases {
     fn tell(&mut self, word: &str, words: &mut Words<'_>) -> Outcome {
         match word {
             "rows" => self.count_rows = words.number(),
-            "sizes" => self.sizes = Some((numbers_to(words, "|")?, numbers_to(words, "")?)),
-            "text" => self.script.push_str(words.text().as_str())?,
-            "times" => {
-                let (count, word, rest) = (words.number(), words.word(), words.rest());
-                for _ in 0..count {
-                    add_line(&mut self.script, word, rest)?;
-                }
-            }
-            _ => add_line(&mut self.script, word, words.rest())?,
+            "sizes" => return tell_sizes(&mut self.sizes, words),
+            "text" => return self.script.push_str(words.text().as_str()),
+            "times" => return add_lines(&mut self.script, words),
+            _ => return add_line(&mut self.script, word, words.rest()),
         }
         Ok(())
     }
@@ -105,6 +101,21 @@ impl TableCases {
         drop(table);
         outcome
     }
+}
+
+/// Adds the line of a script that is told after a count, so many times.
+fn add_lines(script: &mut String, words: &mut Words<'_>) -> Outcome {
+    let (count, word, rest) = (words.number(), words.word(), words.rest());
+    for _ in 0..count {
+        add_line(script, word, rest)?;
+    }
+    Ok(())
+}
+
+/// Takes widths, a bar and heights.
+pub fn tell_sizes(sizes: &mut Option<Sizes>, words: &mut Words<'_>) -> Outcome {
+    *sizes = Some((numbers_to(words, "|")?, numbers_to(words, "")?));
+    Ok(())
 }
 
 /// The numbers before the next word that is this one, which is passed; all that are left for the empty word.
