@@ -43,7 +43,6 @@ impl<'a> Look<'a> {
 /// texts stand between blanks by these.
 #[derive(Drop)]
 pub struct Looks<'a> {
-    config: &'a SpannedConfig,
     common: Option<Look<'a>>,
     pub blanks: Option<Blanks>,
 }
@@ -69,27 +68,25 @@ impl<'a> Looks<'a> {
     {
         if has_own_look(config) {
             return Looks {
-                config,
                 common: None,
                 blanks: None,
             };
         }
         let look = Look::of(config, Position { row: 0, col: 0 });
         Looks {
-            config,
             common: Some(look),
             blanks: Blanks::of(&look),
         }
     }
 
-    /// Those of the cell at a position.
-    pub fn get(&self, position: Position) -> Look<'a>
-        requires { IsLookedUp self.now.config.now self.now }
-        ensures { look_seen result ≡ look_of self.now.config.now position }
+    /// Those that this configuration has for the cell at a position.
+    pub fn get(&self, config: &'a SpannedConfig, position: Position) -> Look<'a>
+        requires { IsLookedUp config.now self.now }
+        ensures { look_seen result ≡ look_of config.now position }
     {
         match self.common {
             Some(look) => look,
-            None => Look::of(self.config, position),
+            None => Look::of(config, position),
         }
     }
 }

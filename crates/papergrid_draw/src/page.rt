@@ -164,7 +164,7 @@ impl<'a> Frame<'a> {
             result ≡ Some (block_at (drawing_of parts texts) position) }
     {
         let place = self.table.rectangle(position)?;
-        let look = self.looks.get(position);
+        let look = self.looks.get(self.config, position);
         Some(Block::new(look, cell, color, place.width, place.height))
     }
 

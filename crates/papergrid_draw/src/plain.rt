@@ -222,7 +222,7 @@ where
         }
     }
     let cell = cells.cell(position)?;
-    let look = frame.looks.get(position);
+    let look = frame.looks.get(frame.config, position);
     push_only_line(look, cell, cells.color(position), width, line)
 }
 

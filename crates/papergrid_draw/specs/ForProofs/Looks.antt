@@ -38,6 +38,5 @@ pub record IsCommonLook (config : SpannedConfig) : Type 0 where
 
 -- those of a configuration: what is common is so for each position
 pub record IsLookedUp (config : SpannedConfig) (looks : Looks) : Type 0 where
-  pub is_of : looks.config.now ≡ config
   pub alike : (look : Look) → looks.common ≡ Some look → (p : Position) → look_seen look ≡ look_of config p
   pub blanks : (blanks : Blanks) → looks.blanks ≡ Some blanks → (p : Position) → IsBetweenBlanks (look_of config p) blanks

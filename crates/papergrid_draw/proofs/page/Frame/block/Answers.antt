@@ -15,7 +15,7 @@ returns g c = λ parts texts frame inside lines color.
     let made = c.new.ensures in
     ap (λ (b : Block). Some b) (block-made (drawing_of parts texts) p c.new.result c.in_ok-place.place
     (found.1 ∙ ap (λ (t : TableParts). place_at (view_of t) p) frame.table)
-    (ap (λ (b : Block). b.look) made ∙ c.get-look.ensures ∙ ap (λ (s : SpannedConfig). look_of s p) frame.looks.is_of)
+    (ap (λ (b : Block). b.look) made ∙ c.get-look.ensures ∙ ap (λ (s : SpannedConfig). look_of s p) frame.config)
     (ap (λ (b : Block). b.lines) made ∙ sym lines)
     (ap (λ (b : Block). b.color) made ∙ sym color)
     (ap (λ (b : Block). b.width) made)
