@@ -75,7 +75,8 @@ IsRefusal (Memory e) = ⊥
 IsRefusal Write = ⊥
 IsRefusal e = ⊤
 
--- how a run ends that draws the table of a script, and what it writes: the lines of its picture, or why it has none
+-- how a run ends that draws the table of a script, and what it writes. It writes the lines of the table's picture,
+-- or why the table has none
 abbrev pub IsTablePicture : Sizing → Table → RunEnd → List ℕ → Type 0
 IsTablePicture sizing table Done output =
     (d : Drawing) × IsDrawingBy table.columns table.rows sizing table.settings d × (output ≡ lined d)

@@ -1,5 +1,5 @@
--- What a run does to the bytes of its reader and its writer, whether or not these tell them: what is left to read, and
--- what was written, each before and after.
+-- What a run does to the bytes of its reader and its writer, whether or not these tell them. The bytes are what is
+-- left to read, and what was written, each before and after.
 use Rattle.std.specs.Prelude.{◌≡◌, ℕ, IfSome, List, Option, take}
 use Rattle.std.specs.Io.KnownBytes.{Appends, Consumes, IsAtEnd}
 use Rattle.papergrid_layout.specs.declared.sizing.Sizing.{Sizing}

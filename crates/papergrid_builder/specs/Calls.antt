@@ -41,7 +41,7 @@ IsNoCell text e = ⊥
 abbrev pub AreAscii : ℕ → ℕ → Type 0
 AreAscii cell_end row_end = (cell_end < 128) × (row_end < 128)
 
--- the rows that a text in UTF-8 is cut into as more rows, each of which is ended; their texts are in UTF-8 too
+-- the rows that a text in UTF-8 is cut into as more rows, each of which is ended. Their texts are in UTF-8 too
 abbrev pub GainsRows : ℕ → ℕ → List ℕ → ToldTable → ToldTable → Type 0
 GainsRows cell_end row_end text old new = AreAscii cell_end row_end × IsUtf8 text
     × All (All IsUtf8) (rows_in cell_end row_end text) × (new ≡ with_more_rows old (rows_in cell_end row_end text))

@@ -10,7 +10,8 @@ use Rattle.papergrid_builder.specs.declared.error.BuilderError.{BuilderError}
 use Rattle.papergrid_builder.specs.declared.error.BuilderError.TheVariants.{Memory, NotTiled, OutOfTable, TooLarge}
 
 module _ (settings : List Setting) (rows : List (List (List ℕ))) (sizing : Sizing) where
-  -- the drawing of the texts by the settings, with the sizes that are chosen so, in as many columns as the longest row has cells
+  -- the drawing of the texts by the settings, with the sizes that are chosen so. It has as many
+  -- columns as the longest row has cells
   abbrev pub IsDrawingOf : Drawing → Type 0
   IsDrawingOf d = IsDrawingBy (longest rows) rows sizing settings d
 

@@ -5,7 +5,8 @@ use Rattle.papergrid_values.specs.declared.position.Position.{Position}
 use Rattle.papergrid_config.specs.declared.setting.Setting.{Setting}
 use Rattle.papergrid_layout.specs.Tables.{TableParts}
 
--- what was found of a table: its configuration and its sizes, and the cells that certify these along each direction, if there are such
+-- what was found of a table: its configuration and its sizes. With the sizes come the cells that certify them along
+-- each direction, if there are such
 pub record FoundTable : Type 0 where
   pub parts : TableParts
   pub width_certificate : Option (List Position)

@@ -16,7 +16,8 @@ use Rattle.papergrid_c.specs.Numbers.{done, no_cell, no_certificate, no_room, no
 use Rattle.papergrid_c.specs.declared.structs.PapergridPlace.{PapergridPlace}
 use Rattle.papergrid_c.specs.declared.structs.PapergridPosition.{PapergridPosition}
 
--- what a call does to the table of a handle, and what it tells in the place of what was lent to it; a handle without a table stays so
+-- what a call does to the table of a handle, and what it tells in the place of what was lent to it. A
+-- handle without a table stays so
 abbrev pub TellsOfTable : {A : Type 0} → (ToldTable → A → ToldTable → A → ℤ → Type 0) → Option ToldTable → A → Option ToldTable → A → ℤ → Type 0
 TellsOfTable Does None lent new told result = (new ≡ None) × (told ≡ lent) × (result ≡ no_table)
 TellsOfTable Does (Some old) lent new told result = (table : ToldTable) × (new ≡ Some table) × Does old lent table told result

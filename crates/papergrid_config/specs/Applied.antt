@@ -23,8 +23,9 @@ abbrev pub is_global : Entity → Bool
 is_global Global = true
 is_global other = false
 
--- nothing is allocated by a value for the whole table, by a span below 2, and by each setting that
--- is none of these
+-- whether a setting allocates nothing. A value by entity is free for the whole table alone, and a
+-- span where it is below 2. What inserts a line, or sets characters or colours at an offset or
+-- round a cell, is not. Each other setting is
 abbrev pub is_free : Setting → Bool
 is_free (SetPadding entity v) = is_global entity
 is_free (SetPaddingColor entity v) = is_global entity

@@ -3,7 +3,7 @@ use Rattle.std.specs.Prelude.{◌≡◌}
 use Rattle.papergrid_tables.specs.Overrides.{override_at}
 use Rattle.papergrid_config.specs.declared.spanned.SpannedConfig.{SpannedConfig}
 
--- the values by entity, the lines, the spans and the values of the whole table are the same, and so is
+-- the values by entity, the lines, the spans and the values of the whole table are the same. So is
 -- the override at each position and offset, however it is kept
 pub record HoldTheSameSettings (x y : SpannedConfig) : Type 0 where
   pub but_overrides : x ≡ record y {

@@ -24,8 +24,8 @@ module _ {T : Type 0} where
   sets_all (Insert Global v) = true
   sets_all call = false
 
-  -- a call after which no earlier override of the cell counts: for the whole table, or a remove of the
-  -- cell, its row or its column
+  -- a call after which no earlier override of the cell counts. It is for the whole table, or a
+  -- remove of the cell, its row or its column
   abbrev pub ends_overrides : ℕ → ℕ → MapCall T → Bool
   ends_overrides r c (Remove (Cell i j)) = (i == r) && (j == c)
   ends_overrides r c (Remove (Row i)) = i == r
@@ -45,13 +45,13 @@ module _ {T : Type 0} (calls : List (MapCall T)) where
     pub last : (j : ℕ) (other : MapCall T) → i < j → j < n → slice_get calls j ≡ Some other →
         test other ≡ false
 
-  -- after the first n calls a column (row) has a value that stands: the last of them that sets it, or
-  -- is for the whole table, sets it so
+  -- after the first n calls a column (row) has a value that stands. The last of them that sets it,
+  -- or is for the whole table, sets it so
   abbrev pub EntityStands : Entity → ℕ → T → Type 0
   EntityStands entity n v = (i : ℕ) × IsLast (concerns entity) n i (Insert entity v)
 
-  -- the i-th call overrides the cell with a value: it sets the cell, or its row while a value of its
-  -- column stands, or the other way round
+  -- the i-th call overrides the cell with a value. It sets the cell, or its row while a value of
+  -- its column stands, or the other way round
   abbrev pub IsCellOverride : ℕ → ℕ → ℕ → T → Type 0
   IsCellOverride r c i v =
       (slice_get calls i ≡ Some (Insert (Cell r c) v))
@@ -72,9 +72,9 @@ module _ {T : Type 0} (calls : List (MapCall T)) where
   abbrev pub TableStands : ℕ → T → Type 0
   TableStands n v = (i : ℕ) × IsLast sets_all n i (Insert Global v)
 
-  -- the value that the first n calls decide for the cell: that of the last override that counts,
-  -- else the column's that stands, else the row's, else the whole table's, else the one given at
-  -- first
+  -- the value that the first n calls decide for the cell. It is that of the last override
+  -- that counts, else the column's that stands, else the row's. Else it is the whole
+  -- table's, else the one given at first
   abbrev pub IsEffective : T → ℕ → ℕ → ℕ → T → Type 0
   IsEffective given r c n =
       OrElse (OverrideStands r c n) (OrElse (EntityStands (Column c) n) (OrElse (EntityStands (Row r) n)

@@ -35,7 +35,7 @@ module _ (config : SpannedConfig) where
       HasNothing config.trim_horizontal
       × (HasNothing config.trim_vertical × HasNothing config.line_alignment) → ⊥
 
-  -- no edge, corner or colour of a line is stored, and no character or colour at an offset: what stands on a line is
+  -- no edge, corner or colour of a line is stored, and no character or colour at an offset. What stands on a line is
   -- that of the whole line
   pub record HasCommonLines : Type 0 where
     pub characters : HasNoCellParts (lines.parts_of_borders config.characters)

@@ -51,8 +51,8 @@ after_exponent [] = []
 after_exponent (c ∷ cs) =
     if (c == 0x65 || c == 0x45) && begins_with_digit (after_sign cs) then after_digits (after_sign cs) else c ∷ cs
 
--- whether a text is a number: behind a sign a digit, or a point and a digit, and nothing behind the whole number, the
--- fraction and the exponent
+-- whether a text is a number. It is one where behind a sign, if there is one, a digit comes, or a point and a digit.
+-- Nothing may come behind the whole number, the fraction and the exponent
 unfoldable pub is_number : List ℕ → Bool
 is_number text =
     let unsigned = after_sign text in
@@ -63,7 +63,7 @@ is_number text =
 abbrev pub field_in : ℕ → List (List ℕ) → List ℕ
 field_in column row = get_or row column []
 
--- whether a column of these rows is one of numbers: each field is a number or empty, and one at least is a number
+-- whether a column of these rows is of numbers: each field is a number or empty, and one at least is a number
 abbrev pub is_numeric : List (List (List ℕ)) → ℕ → Bool
 is_numeric rows column =
     list_all (λ row. is_empty (field_in column row) || is_number (field_in column row)) rows

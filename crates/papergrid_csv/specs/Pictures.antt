@@ -22,8 +22,8 @@ use Rattle.papergrid_csv.specs.declared.request.Request.{Request}
 use Rattle.papergrid_csv.specs.declared.run.CsvEnd.{CsvEnd}
 use Rattle.papergrid_csv.specs.declared.run.CsvEnd.TheVariants.{Drawn, Hides, NoColumn, NotText, Ragged, Refused, TooWide, Unclosed}
 
--- the rows of an input, and as they are drawn: each name of the request is of a column, and no field is hidden, unless
--- fields may be
+-- the rows of an input, and as they are drawn. Each name of the request is of a column, and no field
+-- is hidden, unless fields may be
 pub record IsCsvTable (request : Request) (input : List ℕ) : Type 0 where
   pub columns : ℕ
   pub rows : List (List (List ℕ))
@@ -33,8 +33,8 @@ pub record IsCsvTable (request : Request) (input : List ℕ) : Type 0 where
   pub seen : request.hides ≡ false → (p : Position) → IsFieldHidden request.spans.items rows p → ⊥
   pub cut : AreCut request.cut rows shown
 
--- further settings, by which the crossings of a configuration fit the spans, in a table of so many rows and columns, where it
--- becomes this one by them; none where they need not fit
+-- further settings, by which the crossings of a configuration fit the spans, in a table of so many rows and columns. By
+-- them it becomes this one. The list is empty where crossings need not fit
 abbrev pub AreFitted : Option Junctions → List Setting → ℕ × ℕ → SpannedConfig → List Setting → Type 0
 AreFitted None settings shape config fitted = fitted ≡ []
 AreFitted (Some junctions) settings shape config fitted =

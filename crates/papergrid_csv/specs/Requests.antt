@@ -69,8 +69,8 @@ module _ (request : Request) (columns : ℕ) (rows : List (List (List ℕ))) whe
       map (λ column. SetAlignmentHorizontal (Column column) (column_alignment (rows_below request.has_head rows) column entry.1))
       (columns_named (first_row rows) columns entry.0)
 
-  -- the settings of a table of these rows: the frame, the line below the head, the padding and the alignments of all cells,
-  -- those of single columns, and the spans
+  -- the settings of a table of these rows. They are the frame, the line below the head, the padding and the alignments
+  -- of all cells, those of single columns, and the spans
   abbrev pub settings_of : List Setting
   settings_of =
       SetBorders request.frame ∷ (head_line request.head (length rows)
@@ -91,8 +91,8 @@ fitting_characters (Some junctions) =
     ∷ junctions.left_intersection ∷ junctions.intersection ∷ junctions.right_intersection
     ∷ junctions.bottom_left ∷ junctions.bottom_intersection ∷ junctions.bottom_right ∷ []
 
--- all characters of a request are separators: those of its frame, of the line below the head, round texts, and of crossings
--- that are to fit
+-- all characters of a request are separators. They are those of its frame, of the line below the head, round texts, and
+-- of crossings that are to fit
 pub record IsSeparating (request : Request) : Type 0 where
   pub frame : list_all part_separates (frame_parts request.frame) ≡ true
   pub head : list_all part_separates (head_parts request.head) ≡ true

@@ -15,7 +15,8 @@ use Rattle.papergrid_csv.specs.declared.reading.RowsError.{RowsError}
 use Rattle.papergrid_csv.specs.declared.reading.RowsError.TheVariants.{Memory, NotText, Ragged, Unclosed}
 use Rattle.papergrid_csv.specs.Spelling.{spelled}
 
--- how a text of a format is read: by RFC 4180 with this byte between fields, or with tabs between them and no quotes
+-- how a text of a format is read. It is read by RFC 4180 with this byte between fields, or with
+-- tabs between them and no quotes
 abbrev pub config_by : Format → Config
 config_by (Csv delimiter) = record default_config { delimiter = delimiter }
 config_by Tsv = record default_config { delimiter = 9; quoting = false }
@@ -52,8 +53,8 @@ greatest_length (row ∷ rows) = max (length row) (greatest_length rows)
 abbrev pub with_empty_fields : ℕ → List (List ℕ) → List (List ℕ)
 with_empty_fields columns row = row ++ replicate (columns - length row) []
 
--- of a text these are the rows of its table, with so many fields each: its records, each field as it is shown, with empty
--- fields where a record has fewer than the longest
+-- of a text these are the rows of its table, with so many fields each. They are its records, each field as it is shown,
+-- with empty fields where a record has fewer than the longest
 pub record AreRowsOf (reading : Reading) (input : List ℕ) (columns : ℕ) (rows : List (List (List ℕ))) : Type 0 where
   pub records : List (List (List ℕ))
   pub closed : IsUnclosed reading input → ⊥

@@ -1,5 +1,5 @@
 -- What the fields of a text stand for, and how those of their characters are spelled that would break the lines of a
--- table: control characters, and those that turn the direction of a text.
+-- table. These are control characters, and those that turn the direction of a text.
 use Rattle.std.specs.Prelude.{ℕ, nat_le, ◌/◌, ◌%◌, ◌==◌, ◌||◌, ◌&&◌, ◌++◌, Bool, false, if◌then◌else◌, List, [], ◌∷◌, Option, None, Some, chars, codes, encode_utf8_all, flat_map, replicate}
 use Rattle.std.specs.Fmt.{digit_glyph, digits}
 use Rattle.std.specs.Int.{is_in_range}

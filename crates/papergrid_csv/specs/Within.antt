@@ -15,7 +15,7 @@ module _ (request : Request) (width : ℕ) where
     abbrev pub IsWiderWith : Option ℕ → Type 0
     IsWiderWith cut = (found : ℕ) × IsUnwritten (cut_request cut) input (TooWide found)
 
-    -- no greater cut of at most so many columns will do: with fields as they are, and by each such cut, the table is wider
+    -- no greater cut of at most so many columns will do. With fields as they are, and by each such cut, the table is wider
     abbrev pub IsGreatestCut : Option ℕ → Type 0
     IsGreatestCut None = ⊤
     IsGreatestCut (Some cut) =
@@ -27,7 +27,8 @@ module _ (request : Request) (width : ℕ) where
     IsLastCut None = width ≡ 0
     IsLastCut (Some cut) = cut ≡ 1
 
-    -- how the run of an input ends, and what is written, with fields cut so: by the greatest cut by which the table is not too wide
+    -- how the run of an input ends, and what is written, with fields cut so. The cut is the greatest by which the table
+    -- is not too wide. Where the table is too wide all the same, no smaller cut is left
     pub record IsRunWithin (cut : Option ℕ) (end : CsvEnd) (output : List ℕ) : Type 0 where
       pub greatest : IsGreatestCut cut
       pub run : IsCsvRun (cut_request cut) input end output

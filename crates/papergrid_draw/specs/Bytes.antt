@@ -33,7 +33,8 @@ pieces_bytes pieces = flat_map piece_bytes pieces
 abbrev pub switch : Option (List ℕ × List ℕ) → Option (List ℕ × List ℕ) → List ℕ
 switch used color = if option_eq same_texts used color then [] else suffix_of used ++ prefix_of color
 
--- a piece of a horizontal line, whose colour is in use: where it has a colour of its own, that is left and begun again
+-- a piece of a horizontal line, whose colour is in use. Where the piece has a colour of its own, the one in use is
+-- left and begun again
 abbrev pub mark_bytes : Mark → List ℕ
 mark_bytes mark = mark_of mark.own
   where

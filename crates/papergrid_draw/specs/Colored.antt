@@ -25,8 +25,8 @@ abbrev pub inks_of : DrawnLine → List Ink
 inks_of (TextLine pieces) = map piece_ink pieces
 inks_of (RuleLine stretches) = flat_map stretch_inks stretches
 
--- bytes in blocks: each is the beginning of a colour, some texts of that colour, and its end, or texts without colour;
--- in order the texts are these, each in a block of its colour
+-- bytes in blocks. Each is the beginning of a colour, some texts of that colour, and its end, or texts without colour.
+-- In order the texts are these, each in a block of its colour
 pub record AreInBlocks (inks : List Ink) (bytes : List ℕ) : Type 0 where
   pub blocks : List (Option (List ℕ × List ℕ) × List (List ℕ))
   pub written : bytes ≡ flat_map (λ block. colored block.0 (flat_map (λ text. text) block.1)) blocks

@@ -1,5 +1,6 @@
--- Texts that are delivered to a writer, one after the other: takes relates the writer before a text that it took,
--- the text, and the writer after it, and breaks the same of a text that it did not take, or not all of it.
+-- Texts that are delivered to a writer, one after the other. `takes` relates the writer before a
+-- text that it took, the text, and the writer after it. `breaks` relates the same of a text that it
+-- did not take, or not all of it.
 use Rattle.std.specs.Prelude.{◌≡◌, ℕ, List, ◌++◌}
 use Rattle.std.specs.Fmt.{WritesInCalls}
 use Rattle.papergrid_draw.specs.declared.error.DrawError.{DrawError}

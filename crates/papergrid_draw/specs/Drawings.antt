@@ -5,8 +5,9 @@ use Rattle.papergrid_config.specs.declared.spanned.SpannedConfig.{SpannedConfig}
 use Rattle.papergrid_layout.specs.Places.{TableView, table_by}
 use Rattle.papergrid_layout.specs.Tables.{TableParts}
 
--- a configuration, the widths of columns and the heights of rows, how many rows and columns there are, the
--- lines of the text of each cell with their widths, none where there is no cell, and the colour of the text
+-- a configuration, the widths of columns and the heights of rows, and how many rows and
+-- columns there are. Of each cell the lines of the text with their widths, none where there is
+-- no cell, and the colour of the text
 pub record Drawing : Type 0 where
   pub config : SpannedConfig
   pub widths : ℕ → ℕ

@@ -24,7 +24,7 @@ module _ (d : Drawing) where
   abbrev pub AllHaveRoom : Type 0
   AllHaveRoom = (p : Position) → HasNoRoom p → ⊥
 
-  -- why it is not drawn: the spans do not tile it, else a cell has no room, the first one, else it is too large; an
+  -- why it is not drawn. The spans do not tile it, else a cell has no room, the first one, else it is too large. An
   -- allocation or the writer may fail
   abbrev pub IsDrawFault : DrawError → Type 0
   IsDrawFault (OutOfTable p) = IsTileFault (layout_of d) (OutOfTable p)

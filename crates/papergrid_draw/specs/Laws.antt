@@ -42,13 +42,13 @@ text_piece b line = record { kind = CellText; text = line.0; columns = line.1; c
 abbrev pub AreNoWider : ℕ → List (List ℕ × ℕ) → Type 0
 AreNoWider width lines = All (λ line. (width_of line.0 ≤ line.1) × (line.1 ≤ width)) lines
 
--- such are the lines at a position, by the measure of the cell that the rows have there; there are none where they have none
+-- such are the lines at a position, by the measure of the cell that the rows have there. There are none where they have none
 pub record AreMeasuredAt {C : Type 0} (measure : C → ℕ × ℕ) (rows : List (List C)) (p : Position)
     (lines : List (List ℕ × ℕ)) : Type 0 where
   pub of_cell : (cell : C) → IsCellAt rows p cell → AreNoWider (side Columns (measure cell)) lines
   pub of_none : ((cell : C) → IsCellAt rows p cell → ⊥) → lines ≡ []
 
--- the lines at a position are those of the text of the cell that the rows have there; there are none where they have none
+-- the lines at a position are those of the text of the cell that the rows have there. There are none where they have none
 pub record AreLinesAt {C : Type 0} (text : C → List ℕ) (rows : List (List C)) (p : Position)
     (lines : List (List ℕ × ℕ)) : Type 0 where
   pub of_cell : (cell : C) → IsCellAt rows p cell → lines ≡ map with_width (split_lines (text cell))

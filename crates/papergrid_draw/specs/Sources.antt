@@ -9,7 +9,7 @@ use Rattle.papergrid_draw.specs.Laws.{text_piece}
 use Rattle.papergrid_draw.specs.Pieces.{Piece, fill_text}
 use Rattle.papergrid_draw.specs.Separated.{fills_of}
 
--- a piece of a picture is of the content of a visible cell, or it is a vertical line, a crossing, or of a horizontal line
+-- a piece of a picture is of a visible cell's content, or a vertical line, a crossing, or of a horizontal line
 pub data IsOfTable (d : Drawing) (piece : Piece) : Type 0 where
   OfCell : (p : Position) → IsVisibleCell (layout_of d) p → (k : ℕ) → Contains (content (block_at d p) k) piece →
       IsOfTable d piece
@@ -18,7 +18,7 @@ pub data IsOfTable (d : Drawing) (piece : Piece) : Type 0 where
   OfSegment : (p : Position) (mark : Mark) → Contains (segment d.config d.shape p (d.widths p.col)) mark →
       piece ≡ mark.piece → IsOfTable d piece
 
--- a piece is a line of the cell's text as it is shown, or it consists of a character that fills the cell's place
+-- a piece is a line of the cell's text as it is shown, or consists of a character that fills the cell's place
 abbrev pub IsOfCell : Block → Piece → Type 0
 IsOfCell b piece =
     ((line : List ℕ × ℕ) × Contains (shown b) line

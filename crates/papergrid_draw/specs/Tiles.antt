@@ -55,7 +55,7 @@ module _ (table : TableView) where
   abbrev pub IsUntiled : Position → Type 0
   IsUntiled q = IsTablePosition q × (IsOwnedOnce q → ⊥)
 
-  -- why they do not: the first cell that ends outside, or else the first position without just one owner; memory may be
+  -- why they do not: the first cell that ends outside, or else the first position without just one owner. Memory may be
   -- refused in place of any answer
   abbrev pub IsTileFault : DrawError → Type 0
   IsTileFault (OutOfTable p) = IsFirstPosition EndsOutside p

@@ -118,9 +118,9 @@ pub record DifferInCrossings (old new : SpannedConfig) : Type 0 where
   pub parts : parts_of_borders new.characters
       ≡ record (parts_of_borders old.characters) { corner = (parts_of_borders new.characters).corner }
 
--- these settings fit the crossings of a configuration, in a table of so many rows and columns, to the lines that meet there:
--- they set single crossings that have another character, and where they are added to it each crossing that is seen has the
--- character of its lines; there are none for a table without rows or columns
+-- these settings fit the crossings of a configuration, in a table of so many rows and columns, to the lines that meet
+-- there. They set single crossings that have another character. Where they are added to it, each crossing that is seen
+-- has the character of its lines. There are none for a table without rows or columns
 pub record FitCrossings (config : SpannedConfig) (shape : ℕ × ℕ) (junctions : Junctions) (settings : List Setting)
     : Type 0 where
   pub none : (shape.0 ≡ 0) ⊎ (shape.1 ≡ 0) → settings ≡ []
@@ -134,8 +134,8 @@ pub record FitCrossings (config : SpannedConfig) (shape : ℕ × ℕ) (junctions
       (i j : ℕ) → IsSeenCrossing d i j →
       junction_at junctions d i j ≡ Some (crossing_character new shape (position_of (i, j)))
 
--- why there are no such settings: the spans do not tile the table, else it has so many rows or columns that no more can be
--- counted; an allocation may fail
+-- why there are no such settings. The spans do not tile the table, else it has so many rows or columns that no more can
+-- be counted. An allocation may fail
 abbrev pub IsFitFault : SpannedConfig → ℕ × ℕ → DrawError → Type 0
 IsFitFault config shape TooLarge =
     IsTiled (layout_of (bare_drawing config shape)) × ((2 ^ 64 ≤ shape.0 + 1) ⊎ (2 ^ 64 ≤ shape.1 + 1))

@@ -56,8 +56,8 @@ module _ {C : Type 0} (grid : Grid) (measure : C → ℕ × ℕ) (columns : ℕ)
   abbrev pub AreBothLeast : List ℕ → List ℕ → Type 0
   AreBothLeast wide high = HoldAlong AreLeastSizes wide high
 
-  -- out of the table by the first cell that overflows it, else too large along one direction, of which this is known; an
-  -- allocation may fail in place of any answer
+  -- out of the table by the first cell that overflows it, else too large along one direction, of which this is known.
+  -- An allocation may fail in place of any answer
   abbrev pub IsBothRefusedWhere : (Problem → Type 0) → LayoutError → Type 0
   IsBothRefusedWhere too_large (OutOfTable p) = first_out_of_table ≡ Some p
   IsBothRefusedWhere too_large TooLarge = (first_out_of_table ≡ None)

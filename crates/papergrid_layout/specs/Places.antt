@@ -1,4 +1,5 @@
--- Where cells stand in their table as it is printed: in columns of a terminal from its left edge on, in lines from its top on.
+-- Where cells stand in their table as it is printed. They stand in columns of a terminal from the table's left edge on,
+-- in lines from its top on.
 use Rattle.std.specs.Prelude.{◌≡◌, ℕ, ◌+◌, ◌-◌, ◌^◌, ◌<◌, ◌≤◌, ◌⊎◌, ⊤, All, AllPairs, Bool, true, false, Contains, List, None, Option, Some, slice_index, sum_by, count_by, Result, Ok, Err}
 use Rattle.std.specs.List.{range_with_len}
 use Rattle.papergrid_values.specs.declared.position.Position.{Position}
@@ -137,8 +138,8 @@ module _ (table : TableView) where
     pub fit : (direction : Direction) → total_along direction < 2 ^ 64
     pub exact : place ≡ place_at p
 
-  -- its screen rectangle, or why it has none: it is hidden, else it overflows the table, else a total is past
-  -- the greatest `usize`
+  -- its screen rectangle, or why it has none. It is hidden, else it overflows the table, else a
+  -- total is past the greatest `usize`
   abbrev pub IsPlaced : Position → Result Place PlaceError → Type 0
   IsPlaced p (Ok place) = HasPlace p place
   IsPlaced p (Err Hidden) = table.grid.shows p ≡ false

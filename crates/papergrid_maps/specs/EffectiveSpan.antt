@@ -15,8 +15,8 @@ module _ (d : Direction) (p : Position) where
   abbrev pub NoneDecides : List SpanCall → Type 0
   NoneDecides calls = All (λ call. decides_span call ≡ false) calls
 
-  -- the span that the calls, the oldest first, leave: what the last call that decides it sets it to, which is 1 where that removes it, and 1
-  -- where none decides it
+  -- the span that the calls, the oldest first, leave: what the last call that decides it sets it to. It is 1 where that
+  -- call removes it, and 1 where none decides it
   pub data IsEffectiveSpan (calls : List SpanCall) : ℕ → Type 0 where
     BySet : (n : ℕ) (before after : List SpanCall) → 1 ≤ n → calls ≡ before ++ SetSpan d p n ∷ after → NoneDecides after → IsEffectiveSpan calls n
     ByRemoval : (before after : List SpanCall) → calls ≡ before ++ RemoveSpans d ∷ after → NoneDecides after → IsEffectiveSpan calls 1

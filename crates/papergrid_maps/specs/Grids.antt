@@ -7,9 +7,9 @@ use Rattle.papergrid_maps.specs.declared.compact.CompactConfig.{CompactConfig}
 use Rattle.papergrid_values.specs.declared.direction.Direction.{Direction}
 use Rattle.papergrid_values.specs.declared.direction.Direction.TheVariants.{Columns, Rows}
 
--- which positions are visible, and along each direction the span of a position, the paddings before and
--- after its text, and, of so many tracks, before which of them, or at their count after the last, there
--- is a line
+-- which positions are visible, and along each direction the span of a position and the paddings
+-- before and after its text. Of so many tracks along a direction it says before which of them, or
+-- at their count after the last, there is a line
 pub record Grid : Type 0 where
   pub shows : Position → Bool
   pub span : Direction → Position → ℕ

@@ -30,8 +30,9 @@ module _ {T : Type 0} where
   global_value given (Insert Global v ∷ older) = v
   global_value given (call ∷ older) = global_value given older
 
-  -- the last override that counts: an insert of the cell, or one of its row (column) while its column (row) has a
-  -- value, since the last call of Global and the last remove of the cell, its row or its column
+  -- the last override that counts: an insert of the cell, or one of its row (column) while its column
+  -- (row) has a value. It counts if it comes after the last call of Global, and after the last remove of
+  -- the cell, its row or its column
   abbrev pub cell_override_value : ℕ → ℕ → List (MapCall T) → Option T
   cell_override_value r c [] = None
   cell_override_value r c (Insert Global v ∷ older) = None

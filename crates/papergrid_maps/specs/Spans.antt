@@ -20,8 +20,9 @@ pub data SpanCall : Type 0 where
   SetSpan : Direction → Position → ℕ → SpanCall
   RemoveSpans : Direction → SpanCall
 
--- the span of a position: the number of the last call for it with 1 or more, since the last
--- removal of all spans of the direction, or 1; the newest call first
+-- the span of a position: the number of the last call for it with 1 or more, or 1
+-- where there is none. Only calls since the last removal of all spans of the direction
+-- count. The newest call comes first
 abbrev pub span_from : Direction → Position → List SpanCall → ℕ
 span_from d p [] = 1
 span_from d p (RemoveSpans e ∷ older) = if is_same_direction e d then 1 else span_from d p older

@@ -1,5 +1,5 @@
--- The estimate of a table: the sizes along both directions, the totals, which count the lines, and the cells that certify
--- that the sizes are least; or why there are none.
+-- The estimate of a table: its sizes, or why there are none. With the sizes along both directions come the totals,
+-- which count the lines, and the cells that certify that the sizes are least.
 use Rattle.std.specs.Prelude.{ℕ, ◌^◌, ◌||◌, List, map, Option, Some, None, nat_le, if◌then◌else◌}
 use Rattle.papergrid_values.specs.declared.position.Position.{Position}
 use Rattle.papergrid_values.specs.declared.direction.Direction.TheVariants.{Columns, Rows}
@@ -18,8 +18,8 @@ use Rattle.papergrid_layout.specs.declared.sizing.Sizing.TheVariants.{ByShares, 
 use Rattle.papergrid_script.specs.Grids.{grid_of}
 use Rattle.papergrid_script.specs.Scripts.{Table}
 
--- the sizes are the widths, the heights, the totals of both with the lines, and the certificates of both: the positions of
--- cells that certify them, where there are such
+-- the sizes are the widths, the heights, the totals of both with the lines, and the certificates of both. The
+-- certificates are the positions of cells that certify the sizes, where there are such
 pub data Estimate : Type 0 where
   OutOfTable : Position → Estimate
   TooLarge : Estimate

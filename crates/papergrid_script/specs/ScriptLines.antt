@@ -3,7 +3,8 @@ use Rattle.std.specs.Prelude.{◌≡◌, ◌≢◌, ◌⊎◌, ℕ, List, [], �
 use Rattle.papergrid_text.specs.Text.{IsLines}
 use Rattle.papergrid_script.specs.Grammar.{carriage_return}
 
--- the one list is the other without one such element at its end; or it ends with no such element, and is the same
+-- the one list is the other without one such element at its end. Or the other ends with no such
+-- element, and both are the same
 abbrev pub IsWithoutLast : {A : Type 0} → A → List A → List A → Type 0
 IsWithoutLast x all kept = (all ≡ kept ++ x ∷ []) ⊎ (((front : List _) → all ≢ front ++ x ∷ []) × (kept ≡ all))
 

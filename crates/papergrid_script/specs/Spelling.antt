@@ -67,7 +67,7 @@ pub data IsSetting : List ℕ → Setting → Type 0 where
   Novline : (digits : List ℕ) (col : ℕ) → IsNumber digits col → IsSetting (codes "novline " ++ digits) (RemoveVerticalLine col 0)
   Nohline : (digits : List ℕ) (row : ℕ) → IsNumber digits row → IsSetting (codes "nohline " ++ digits) (RemoveHorizontalLine row 0)
 
--- a spelled text and the text that it means: a backslash with an n is a newline, with a t a tab, with a backslash
+-- a spelled text and the text that it means. A backslash with an n is a newline, with a t a tab, with a backslash
 -- one backslash, and each other byte is itself
 pub data Means : List ℕ → List ℕ → Type 0 where
   Ended : Means [] []

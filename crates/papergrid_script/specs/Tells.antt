@@ -11,7 +11,7 @@ use Rattle.papergrid_script.specs.Scripts.{Table}
 abbrev pub NoRowBefore : List (List ℕ) → ℕ → Type 0
 NoRowBefore lines i = (j : ℕ) (line : List ℕ) → j < i → slice_get lines j ≡ Some line → line_says line ≢ Some Row
 
--- the i-th line is bad, the first being the 0-th: it says nothing that a line may say, or adds a cell before the first row
+-- the i-th line is bad, the first being the 0-th. It says nothing that a line may say, or adds a cell before the first row
 abbrev pub IsBad : List (List ℕ) → ℕ → Type 0
 IsBad lines i =
     (line : List ℕ) × (slice_get lines i ≡ Some line) × ((line_says line ≡ None) ⊎ ((text : List ℕ) × (line_says line ≡ Some (Cell text)) × NoRowBefore lines i))
@@ -48,8 +48,8 @@ last_or n (m ∷ ms) = last_or m ms
 abbrev pub rows_said : List (List (List ℕ)) → List Said
 rows_said rows = flat_map (λ texts. Row ∷ map Cell texts) rows
 
--- each line says something: the columns are the last that are said, or 0; the settings are all that are said, in order;
--- and the rows are those of which the script says the beginnings and the cells
+-- each line says something. The columns are the last that are said, or 0. The settings are all that are said, in order.
+-- The rows are those of which the script says the beginnings and the cells
 pub record Tells (lines : List (List ℕ)) (table : Table) : Type 0 where
   pub saids : List Said
   pub each : map line_says lines ≡ map (λ s. Some s) saids

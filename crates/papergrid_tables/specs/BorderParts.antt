@@ -107,8 +107,8 @@ module _ {T : Type 0} where
   abbrev pub only_if : Bool → Option T → Option T
   only_if b part = if b then part else None
 
-  -- of a line, where others cross it: its first end at 0, its last end at the count, or its
-  -- crossing where it is at neither
+  -- the part of a line where others cross it. It is its first end at 0, its last end at the count,
+  -- or its crossing where it is at neither
   abbrev pub crossing_part : ℕ → ℕ → Option T → Option T → Option T → Option T
   crossing_part place count first end inner =
       option_or (only_if (place == 0) first)

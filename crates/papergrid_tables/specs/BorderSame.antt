@@ -12,8 +12,8 @@ module _ {T : Type 0} (eq : T → T → Bool) where
   abbrev pub same_parts : List (Option T) → List (Option T) → Bool
   same_parts xs ys = pointwise (option_eq eq) xs ys
 
-  -- the same default and the same frame, the same line at each number, and the same edge and corner at each position: equal values, or
-  -- none on either side
+  -- the same default and the same frame, the same line at each number, and the same edge and corner at each position.
+  -- This means equal values, or none on either side
   pub record HoldTheSameBorders (s t : BorderParts T) : Type 0 where
     pub global : option_eq eq s.global t.global ≡ true
     pub frame : same_parts (frame_parts s.frame) (frame_parts t.frame) ≡ true

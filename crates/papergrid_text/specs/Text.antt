@@ -1,5 +1,5 @@
--- The lines of a text, its measures and its tabs. A text is the list of its bytes: 9 is a tab, 10 a
--- newline, 13 a carriage return, 32 a space and 92 a backslash.
+-- The lines of a text, its measures and its tabs. A text is the list of its bytes. Byte 9 is a tab,
+-- 10 a newline, 13 a carriage return, 32 a space and 92 a backslash.
 use Rattle.std.specs.Prelude.{◌≡◌, ◌≢◌, ℕ, ◌+◌, ◌<◌, ◌==◌, ◌&&◌, ◌||◌, List, [], ◌∷◌, ◌++◌, length, map, max, not, if◌then◌else◌, Bool, false, replicate, chars, count_by}
 use Rattle.std.specs.List.{slice_split, join_with_byte, All, flat_map, zip}
 use Rattle.std.specs.Str.{encode_utf8_all}
@@ -57,8 +57,8 @@ cached_by_new (line ∷ next ∷ more) = map with_width (line ∷ next ∷ more)
 
 -- ---- tabs
 
--- whether spaces stand for the character c, whose left neighbour is `left`: for a tab, except, where n
--- is not 4, for one right after a backslash
+-- whether spaces stand for the character c, whose left neighbour is `left`. They do for a tab,
+-- except, where n is not 4, for one right after a backslash
 abbrev pub is_spaced : ℕ → ℕ → ℕ → Bool
 is_spaced n left c = (c == 9) && ((n == 4) || not (left == 92))
 

@@ -1,5 +1,5 @@
--- Equality, order and hash of measured texts: by the text that is lent, then the width, then the lines
--- kept, each by its text and its width.
+-- Equality, order and hash of measured texts: by the text that is lent, then the width, then the
+-- lines kept. Each line goes by its text and its width.
 use Rattle.std.specs.Prelude.{ℕ, List, Bool, ◌++◌, nat_eq}
 use Rattle.std.specs.Cmp.Lexicographic.{pointwise, slice_cmp}
 use Rattle.std.specs.Hash as fed

@@ -28,8 +28,8 @@ module _ (problem : Problem) where
     pub too_large : IsTooLarge problem (sizes_of problem)
     pub others_too_large : IsLaminar problem.demands → (other : List ℕ) → Fits problem other → IsTooLarge problem other
 
-  -- out of the table by the first cell that overflows it, else too large, of which this is known; an allocation may fail in
-  -- place of any answer
+  -- out of the table by the first cell that overflows it, else too large, of which this is known. An allocation may
+  -- fail in place of any answer
   abbrev pub IsRefusedWhere : Type 0 → LayoutError → Type 0
   IsRefusedWhere too_large (OutOfTable place) = first_out problem.count problem.demands ≡ Some place
   IsRefusedWhere too_large TooLarge = too_large
@@ -68,8 +68,8 @@ abbrev pub IsCertificateOrNone : {Z : Type 0} → Problem → Option (Vec Positi
 IsCertificateOrNone problem None = NoneCertify problem
 IsCertificateOrNone problem (Some places) = AreCertifying problem places.items
 
--- what a solver finds of a problem: sizes of which this holds, their total with all lines, and what
--- certifies them, of which this holds, where that is asked for, else nothing
+-- what a solver finds of a problem: sizes of which this holds, and their total with all lines. It finds what certifies
+-- them, of which this holds, where that is asked for, else no certificate
 pub record IsSolvedBy (are_sizes : Problem → List ℕ → Type 0)
     (certifies : Problem → Option (Vec Position Global) → Type 0)
     (certify : Bool) (problem : Problem) (solved : Solved) : Type 0 where
@@ -78,7 +78,7 @@ pub record IsSolvedBy (are_sizes : Problem → List ℕ → Type 0)
   pub asked : certify ≡ true → certifies problem solved.certificate
   pub unasked : certify ≡ false → solved.certificate ≡ None
 
--- what is asked for of a problem, or why there is none: where it is refused as too large, this is known of it
+-- what is asked for of a problem, or why there is none. Where it is refused as too large, this is known of it
 abbrev pub AnswersWhere : {A : Type 0} → (Problem → Type 0) → (Problem → A → Type 0) → Problem → Result A LayoutError → Type 0
 AnswersWhere too_large holds problem (Ok answer) = holds problem answer
 AnswersWhere too_large holds problem (Err e) = IsRefusedWhere problem (too_large problem) e

@@ -24,8 +24,8 @@ module _ (problem : Problem) where
     pub past : lowest (end_of d - 1) < lowest (end_of d)
     pub first : tight_cell (net_minimum problem.line) problem.demands (end_of d) ≡ Some d
 
-  -- such cells one after another back from the boundary at i, the last first: the lowest position does
-  -- not move between the end of one and the start of the next, before the first, nor after the last
+  -- such cells one after another back from the boundary at i, the last first. The lowest position does not move
+  -- between the end of one and the start of the next, before the first, nor after the last
   abbrev pub IsPathBack : ℕ → List Demand → Type 0
   IsPathBack i [] = lowest i ≡ 0
   IsPathBack i (d ∷ earlier) =
@@ -36,8 +36,8 @@ abbrev pub with_earlier : Option Demand → (ℕ → List Demand) → List Deman
 with_earlier None earlier = []
 with_earlier (Some d) earlier = d ∷ earlier d.start
 
--- going back from the boundary at i: over a boundary without a tight cell to the one before, and from a tight cell to
--- where its range starts
+-- the cells on the way back from the boundary at i. Where the boundary before has the same lowest position, the way
+-- goes on to that one. Else it takes the tight cell, and goes on to where its range starts
 abbrev pub tight_cells : (Demand → ℕ) → List Demand → ℕ → ℕ → List Demand
 tight_cells asks demands zero i = []
 tight_cells asks demands (suc steps) i =

@@ -45,7 +45,7 @@ abbrev pub IsCriticalPath : {Z : Type 0} → Problem → Option (Vec Position Z)
 IsCriticalPath problem None = ⊥
 IsCriticalPath problem (Some places) = AreCriticalPath problem places.items
 
--- what is asked for of a problem, or why there is none: where it is refused as too large, every list that fits is
+-- what is asked for of a problem, or why there is none. Where it is refused as too large, every list that fits is
 abbrev pub LeastAnswers : {A : Type 0} → (Problem → A → Type 0) → Problem → Result A LayoutError → Type 0
 LeastAnswers holds problem result = AnswersWhere AreLeastTooLarge holds problem result
 

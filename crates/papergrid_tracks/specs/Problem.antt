@@ -3,8 +3,8 @@ use Rattle.std.specs.Prelude.{ℕ, ◌+◌, Bool, List, sum}
 use Rattle.papergrid_values.specs.Lines.{all_lines}
 use Rattle.papergrid_tracks.specs.declared.demand.Demand.{Demand}
 
--- how many tracks there are, whether a line is drawn at i, before track i or, at the count, after the last, and what the
--- visible cells ask for, by row and then by column
+-- how many tracks there are, whether a line is drawn at i, and what the visible cells ask for. The line at i is before
+-- track i or, at the count, after the last. The cells stand by row and then by column
 pub record Problem : Type 0 where
   pub count : ℕ
   pub line : ℕ → Bool

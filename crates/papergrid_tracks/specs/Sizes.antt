@@ -32,8 +32,8 @@ distributed amount d sizes =
 abbrev pub grown_sizes : (ℕ → Bool) → List ℕ → Demand → List ℕ
 grown_sizes line sizes d = distributed (deficit line sizes d) d sizes
 
--- the cells of longer ranges in the order in which they are taken, by (span, row, column): those of span 2, then those of
--- span 3, and so on up to n
+-- the cells of longer ranges in the order in which they are taken, by (span, row, column). Those of span 2 come first,
+-- then those of span 3, and so on up to n
 abbrev pub by_span : ℕ → List Demand → List Demand
 by_span n demands = flat_map (λ span. filter (λ d. d.span == span) demands) (range_with_len 2 (n - 1))
 

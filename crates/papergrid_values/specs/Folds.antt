@@ -8,8 +8,8 @@ module _ {F B T : Type 0} where
   CanFold pre step f b (x ∷ xs) =
       pre f b x × ((b' : B) (f' : F) → step f b x b' f' → CanFold pre step f' b' xs)
 
-  -- calls at each item in turn, each with the answer of the call before, led from the state f and
-  -- the answer b to the answer last
+  -- calls at each item in turn led from the state f and the answer b to the answer last. Each has
+  -- the answer of the call before
   abbrev pub Folds : (F → B → T → B → F → Type 0) → F → B → List T → B → Type 0
   Folds step f b [] last = b ≡ last
   Folds step f b (x ∷ xs) last = (b' : B) × (f' : F) × step f b x b' f' × Folds step f' b' xs last
