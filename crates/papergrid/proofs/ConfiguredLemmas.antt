@@ -8,7 +8,7 @@ use Rattle.papergrid_config.specs.declared.spanned.SpannedConfig.{SpannedConfig}
 use Rattle.papergrid_maps.specs.Grids.{Grid}
 use Rattle.papergrid_config.specs.Grids.{spanned_grid}
 use Rattle.papergrid_layout.specs.Answers.{UnlessMemory, UnlessMemoryError}
-use Rattle.papergrid.specs.Layouts.{IsConfiguredBy}
+use Rattle.papergrid_config.specs.Laws.{IsConfiguredBy}
 
 -- what holds of a result by such a configuration, with the configuration
 pub configured_read : {A C : Type 0} (Tells : List (List C) → Type 0) (holds : Grid → List (List C) → Result A LayoutError → Type 0) (settings : List Setting) (config : SpannedConfig) → IsConfiguredBy settings config → (result : Result A LayoutError)

@@ -14,9 +14,9 @@ use Rattle.papergrid_script.specs.contracts.explained.ReasonPartialEq.TheImpl as
 use Rattle.papergrid_script.specs.declared.answer.RunEnd.{RunEnd}
 use Rattle.papergrid_script.specs.declared.answer.RunEnd.TheVariants.{BadScript, Done, Refused}
 use Rattle.papergrid_script.specs.contracts.answer.RunEndPartialEq.TheImpl as run_end
-use Rattle.papergrid.specs.declared.running.RunFault.{RunFault}
-use Rattle.papergrid.specs.declared.running.RunFault.TheVariants.{Memory, Read, Write}
-use Rattle.papergrid.specs.contracts.running.RunFaultPartialEq.TheImpl as run_fault
+use Rattle.papergrid_script.specs.declared.reading.RunFault.{RunFault}
+use Rattle.papergrid_script.specs.declared.reading.RunFault.TheVariants.{Memory, Read, Write}
+use Rattle.papergrid_script.specs.contracts.reading.RunFaultPartialEq.TheImpl as run_fault
 use Rattle.papergrid_draw.specs.declared.transfer.Failed.{Failed}
 use Rattle.papergrid_draw.specs.contracts.transfer.FailedPartialEq.TheImpl as failed
 

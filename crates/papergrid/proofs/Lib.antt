@@ -1,3 +1,3 @@
 mod ConfiguredLemmas
 mod EqualLemmas
-pub mod PictureLemmas
+mod RunLemmas

@@ -1,19 +1,10 @@
 -- What the layout of records is.
 use Rattle.std.specs.Prelude.{ℕ, List, Result, Ok, Err}
 use Rattle.papergrid_tracks.specs.declared.error.LayoutError.{LayoutError}
-use Rattle.papergrid_config.specs.Laws.{HoldsEffectiveValues}
-use Rattle.papergrid_config.specs.History.{HasSettingHistory}
-use Rattle.papergrid_config.specs.declared.setting.Setting.{Setting}
-use Rattle.papergrid_config.specs.declared.spanned.SpannedConfig.{SpannedConfig}
 use Rattle.papergrid_maps.specs.Grids.{Grid}
 use Rattle.papergrid_layout.specs.Answers.{AreBothLeast, AreBothSizes, HaveNoLeast, IsBothRefused}
 use Rattle.papergrid_layout.specs.declared.iterable.IterGridDimension.{IterGridDimension}
 use Rattle.papergrid_layout.specs.declared.least.LeastGridDimension.{LeastGridDimension}
-
--- a configuration that the settings tell, and so one that holds for each cell what they decide
-pub record IsConfiguredBy (settings : List Setting) (config : SpannedConfig) : Type 0 where
-  pub told : HasSettingHistory settings config
-  pub effective : HoldsEffectiveValues settings config
 
 module _ {C : Type 0} (grid : Grid) (measure : C → ℕ × ℕ) (columns : ℕ) (cells : List (List C)) where
   -- a dimension with exactly the widths and the heights, or why there is none

@@ -1,17 +1,11 @@
 -- What a run does to the bytes of its reader and its writer, whether or not these tell them. The bytes are what is
 -- left to read, and what was written, each before and after.
-use Rattle.std.specs.Prelude.{◌≡◌, ℕ, IfSome, List, Option, take}
+use Rattle.std.specs.Prelude.{◌≡◌, ℕ, List, Option, take}
 use Rattle.std.specs.Io.KnownBytes.{Appends, Consumes, IsAtEnd}
 use Rattle.papergrid_layout.specs.declared.sizing.Sizing.{Sizing}
 use Rattle.papergrid_layout.specs.declared.sizing.Sizing.TheVariants.{ByShares}
 use Rattle.papergrid_script.specs.declared.answer.RunEnd.{RunEnd}
 use Rattle.papergrid_script.specs.Outputs.{end_by, output_by}
-
--- these are all bytes that were left to read, and the reader is at its end
-pub record IsWholeInput (unread_old unread_new : Option (List ℕ)) (input : List ℕ) : Type 0 where
-  pub read : Consumes unread_old unread_new input
-  pub all : IfSome unread_old (λ left. input ≡ left)
-  pub at_end : IsAtEnd unread_new
 
 module _ (unread_old unread_new written_old written_new : Option (List ℕ)) where
   -- some input was read to its end, its output was written and nothing else, and the run ended as it says

@@ -5,9 +5,8 @@ ghost use Rattle.papergrid_draw.specs.declared.transfer.Failed.{Failed};
 ghost use Rattle.papergrid_layout.specs.declared.sizing.Sizing.{Sizing};
 ghost use Rattle.papergrid_script.specs.declared.answer.RunEnd.{RunEnd};
 ghost use Rattle.papergrid_script.specs.declared.explained.Reason.{Reason};
-ghost use Rattle.papergrid.specs.declared.running.RunFault.{RunFault};
+ghost use Rattle.papergrid_script.specs.declared.reading.RunFault.{RunFault};
 
-use crate::running::RunFault;
 use papergrid_draw::transfer::Failed;
 use papergrid_layout::Sizing;
 use papergrid_script::answer::RunEnd;
@@ -16,6 +15,7 @@ pub use papergrid_script::laws::{
     entity_form, estimate_by_grid, grid_by_settings, line_form, number_form, reasons_by_runs,
     script_by_lines, script_lines_form, script_settings_in_range, worked_rows,
 };
+use papergrid_script::reading::RunFault;
 
 /// A clone equals its original.
 pub fn equal_clones()

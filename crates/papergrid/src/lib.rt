@@ -12,7 +12,8 @@ pub use papergrid_draw::transfer::{Failed, ReadSource, Sink, Source, WriteSink};
 pub use papergrid_layout::{Sizing, Table};
 pub use papergrid_script::answer::RunEnd;
 pub use papergrid_script::explained::{Reason, explain};
-pub use running::{RunFault, read_all, run, run_keeping};
+pub use papergrid_script::reading::{RunFault, read_all};
+pub use running::{run, run_keeping};
 pub use table_layout::{layout, layout_least};
 
 /// Colours as texts.

@@ -6,7 +6,8 @@ ghost use Rattle.papergrid_config.specs.declared.spanned.SpannedConfig.{SpannedC
 ghost use Rattle.papergrid_config.specs.Grids.{spanned_grid};
 ghost use Rattle.papergrid_walk.specs.Measures.{line_measure};
 ghost use Rattle.papergrid_layout.specs.Answers.{UnlessMemory};
-ghost use Rattle.papergrid.specs.Layouts.{IsConfiguredBy, IsLaidOut, IsLaidOutLeast};
+ghost use Rattle.papergrid.specs.Layouts.{IsLaidOut, IsLaidOutLeast};
+ghost use Rattle.papergrid_config.specs.Laws.{IsConfiguredBy};
 ghost use Rattle.papergrid_script.specs.Grids.{grid_of};
 ghost use Rattle.papergrid_text.specs.Records.{TellsRows};
 

@@ -18,10 +18,10 @@ use Rattle.papergrid_tracks.specs.declared.error.LayoutError.TheVariants as layo
 use Rattle.papergrid_draw.specs.Drawings.{Drawing, drawn_of}
 use Rattle.papergrid_grid.specs.Cells.{lines_at, text_lines}
 use Rattle.papergrid_grid.specs.Lined.{lined}
-use Rattle.papergrid_script.specs.Estimates.{text_measure}
-use Rattle.papergrid.specs.Layouts.{IsConfiguredBy}
-use Rattle.papergrid.specs.Pictures.{IsDrawingWith, Unsized}
-use Rattle.papergrid.proofs.PictureLemmas.{drawing-with, no-sizes-seen, sizes-seen}
+use Rattle.papergrid_walk.specs.Measures.{text_measure}
+use Rattle.papergrid_config.specs.Laws.{IsConfiguredBy}
+use Rattle.papergrid_grid.specs.Pictures.{IsDrawingWith, Unsized}
+use Rattle.papergrid_grid.proofs.PictureLemmas.{drawing-with, no-sizes-seen, sizes-seen}
 use Rattle.papergrid_builder.specs.Errors.{layout_refusal}
 use Rattle.papergrid_builder.specs.Layouts.{IsNoFoundTable, AreFoundSizes}
 use Rattle.papergrid_builder.specs.Pictures.{IsDrawingOf, IsNotDrawn}

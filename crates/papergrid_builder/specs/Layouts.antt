@@ -13,8 +13,8 @@ use Rattle.papergrid_layout.specs.declared.rect.Place.{Place}
 use Rattle.papergrid_layout.specs.declared.sizing.Sizing.{Sizing}
 use Rattle.papergrid_tracks.specs.declared.error.LayoutError.{LayoutError}
 use Rattle.papergrid_tracks.specs.declared.error.LayoutError.TheVariants as layout_errors
-use Rattle.papergrid_script.specs.Estimates.{text_measure}
-use Rattle.papergrid.specs.Layouts.{IsConfiguredBy}
+use Rattle.papergrid_walk.specs.Measures.{text_measure}
+use Rattle.papergrid_config.specs.Laws.{IsConfiguredBy}
 use Rattle.papergrid_builder.specs.Told.{FoundTable, longest}
 use Rattle.papergrid_builder.specs.declared.error.BuilderError.{BuilderError}
 use Rattle.papergrid_builder.specs.declared.error.BuilderError.TheVariants.{Hidden, Memory, NotEstimated, OutOfTable, TooLarge}

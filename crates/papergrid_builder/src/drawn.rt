@@ -3,7 +3,7 @@
 ghost use Rattle.std.specs.Prelude.{◌≡◌, IfErr, IfOk, length};
 ghost use Rattle.papergrid_draw.specs.Drawings.{Drawing};
 ghost use Rattle.papergrid_grid.specs.Lined.{lined};
-ghost use Rattle.papergrid.specs.Pictures.{IsDrawingWith};
+ghost use Rattle.papergrid_grid.specs.Pictures.{IsDrawingWith};
 ghost use Rattle.papergrid_json.specs.Documents.{AreInRange};
 ghost use Rattle.papergrid_builder.specs.Pictures.{IsDrawingOf, IsNotDrawn};
 ghost use Rattle.papergrid_builder.specs.Told.{longest};

@@ -21,13 +21,6 @@ pub struct Config {
     settings: Vec<Setting>,
 }
 
-impl Config {
-    /// What was applied.
-    pub fn settings(&self) -> &SpannedConfig {
-        &self.config
-    }
-}
-
 impl Kind for Config {
     fn new_one(alloc: Global) -> Config {
         Config {

@@ -5,10 +5,8 @@
 mod answer;
 mod certificate_questions;
 mod compact_cases;
-mod compact_drawings;
 mod config_cases;
 mod config_questions;
-mod drawing_cases;
 mod hidden_questions;
 mod kinds;
 mod map_cases;
@@ -17,7 +15,6 @@ mod pair;
 mod place_questions;
 mod plain_cases;
 mod reading;
-mod run_questions;
 mod running;
 mod settings;
 mod shown;
@@ -28,9 +25,7 @@ mod table_cases;
 mod text_questions;
 
 use compact_cases::CompactCases;
-use compact_drawings::CompactDrawings;
 use config_cases::Config;
-use drawing_cases::DrawingCases;
 use map_cases::Map;
 use pair::Pair;
 use papergrid_maps::SpanTable;
@@ -74,11 +69,7 @@ fn report_of(rt: &HostRuntime, name: &str, text: &str) -> Report {
         "borders.txt" => run::<Pair<BorderTable<char>>>(rt, name, text),
         "compact.txt" => run::<CompactCases>(rt, name, text),
         "config.txt" | "removals.txt" => run::<Pair<Config>>(rt, name, text),
-        "drawings.txt" | "drawings_of_cells.txt" | "drawings_of_spans.txt" => {
-            run::<DrawingCases>(rt, name, text)
-        }
-        "drawings_of_compact.txt" => run::<CompactDrawings>(rt, name, text),
-        "tables.txt" | "scripts.txt" => run::<TableCases>(rt, name, text),
+        "tables.txt" => run::<TableCases>(rt, name, text),
         "texts.txt" | "values.txt" | "widths.txt" => run::<PlainCases>(rt, name, text),
         "maps.txt" => run::<Pair<Map>>(rt, name, text),
         "offsets.txt" => run::<Pair<OffsetTable<char>>>(rt, name, text),

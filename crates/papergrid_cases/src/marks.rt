@@ -47,9 +47,9 @@ const STYLES: [(char, &str, &str); 17] = [
 impl Marked for ANSIStr<'static> {
     fn read(words: &mut Words<'_>) -> Option<ANSIStr<'static>> {
         let letter = words.mark()?;
-        for (known, prefix, suffix) in STYLES {
-            if known == letter {
-                return Some(ANSIStr::new(prefix, suffix));
+        for (known, prefix, suffix) in &STYLES {
+            if *known == letter {
+                return Some(ANSIStr::new(*prefix, *suffix));
             }
         }
         words.lacks("the letter of a colour");
@@ -80,7 +80,8 @@ impl Marked for ANSIBuf {
 
 /// The letter of a colour by its texts, or `?`.
 fn letter_of(before: &str, after: &str) -> char {
-    for (letter, prefix, suffix) in STYLES {
+    for style in &STYLES {
+        let (letter, prefix, suffix) = *style;
         if prefix == before && suffix == after {
             return letter;
         }

@@ -201,32 +201,6 @@ impl<'a> Words<'a> {
         text
     }
 
-    /// The text of a cell, up to the bar that ends it: in quotes, with escapes, or as it stands.
-    fn cell(&mut self) -> Result<String, AllocError> {
-        if self.rest.starts_with('"') {
-            let text = self.text();
-            if self.word() != "|" {
-                self.lacks("a bar after a text in quotes");
-            }
-            return Ok(text);
-        }
-        let (text, rest) = self.rest.split_once('|').unwrap_or((self.rest, ""));
-        self.rest = rest.trim_start();
-        String::from_str(self.alloc, text.trim_end())
-    }
-
-    /// The texts of the cells of a row, up to the end of the line.
-    pub fn cells(&mut self) -> Result<Vec<String>, AllocError> {
-        let mut texts = Vec::new(self.alloc);
-        for _ in 0..usize::MAX {
-            if self.is_empty() {
-                break;
-            }
-            texts.push(self.cell()?)?;
-        }
-        Ok(texts)
-    }
-
     /// The next character, where a backslash begins an escape.
     fn next(&mut self) -> char {
         match self.passed() {

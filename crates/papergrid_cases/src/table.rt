@@ -3,7 +3,6 @@
 use papergrid_config::SpannedConfig;
 use papergrid_text::{IterRecords, Text, VecRecords};
 use std::alloc::{AllocError, Global};
-use std::convert::AsStr;
 
 /// The cells of a table, as texts and as texts that were measured, with the counts that the records tell.
 #[derive(Drop)]
@@ -79,11 +78,10 @@ fn rows_of<C: Held>(alloc: Global, rows: &[&[&str]]) -> Result<Vec<Vec<C>>, Allo
     Ok(held)
 }
 
-/// The cells of a row.
-pub fn row_of<C: Held, S: AsStr>(alloc: Global, row: &[S]) -> Result<Vec<C>, AllocError> {
+fn row_of<C: Held>(alloc: Global, row: &[&str]) -> Result<Vec<C>, AllocError> {
     let mut held = Vec::new(alloc);
     for text in row {
-        held.push(C::of(alloc, text.as_str())?)?;
+        held.push(C::of(alloc, *text)?)?;
     }
     Ok(held)
 }

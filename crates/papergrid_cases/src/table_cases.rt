@@ -1,16 +1,15 @@
-//! Cases of tables: a script tells one, and it is asked for its sizes, what certifies them and its places, or is run.
+//! Cases of tables: a script tells one, and it is asked for its sizes, what certifies them and its places.
 
 use crate::answer::Answer;
 use crate::certificate_questions::ask_certificates;
 use crate::reading::Words;
-use crate::run_questions::ask_run;
 use crate::running::{Outcome, Subject};
 use crate::size_questions::Sizes;
 use crate::table::{Table, Told, add_line};
 use bumpalo::Bump;
-use papergrid::script::{Script, ScriptError, read_script};
-use papergrid::script_setting::configuration_of;
 use papergrid_config::SpannedConfig;
+use papergrid_script::script::{Script, ScriptError, read_script};
+use papergrid_script::script_setting::configuration_of;
 use std::alloc::{AllocError, Global};
 
 /// A script, how many rows the records say that they have, and sizes for the questions on places.
@@ -32,13 +31,12 @@ impl Subject for TableCases {
         }
     }
 
-    /// `rows N` tells the records' count, `sizes 3 4 | 1 1` the sizes, `text "…"` a part of the script, `times N
-    /// LINE` a line so many times. Any other line is one of the script, or a row of cells between bars.
+    /// `rows N` tells the records' count, `sizes 3 4 | 1 1` the sizes, `times N LINE` a line so many times. Any other
+    /// line is one of the script, or a row of cells between bars.
     fn tell(&mut self, word: &str, words: &mut Words<'_>) -> Outcome {
         match word {
             "rows" => self.count_rows = words.number(),
             "sizes" => return tell_sizes(&mut self.sizes, words),
-            "text" => return self.script.push_str(words.text().as_str()),
             "times" => return add_lines(&mut self.script, words),
             _ => return add_line(&mut self.script, word, words.rest()),
         }
@@ -46,18 +44,6 @@ impl Subject for TableCases {
     }
 
     fn ask(&mut self, word: &str, words: &mut Words<'_>, answer: &mut Answer) -> Outcome {
-        match word {
-            "run" | "run_by_shares" | "run_least" | "bad_line" => {
-                ask_run(self.alloc, self.script.as_bytes(), word, words, answer)
-            }
-            _ => self.ask_table(word, words, answer),
-        }
-    }
-}
-
-impl TableCases {
-    /// Answers a question on the table that the script tells.
-    fn ask_table(&self, word: &str, words: &mut Words<'_>, answer: &mut Answer) -> Outcome {
         let arena = Bump::new(self.alloc);
         match read_script(self.alloc, &arena, self.script.as_bytes()) {
             Ok(
@@ -79,8 +65,10 @@ impl TableCases {
             Err(ScriptError::Memory) => Err(AllocError),
         }
     }
+}
 
-    /// The same by a configuration and the rows.
+impl TableCases {
+    /// Answers a question on the table of these rows by a configuration.
     fn ask_rows(
         &self,
         config: &SpannedConfig,
@@ -113,7 +101,7 @@ fn add_lines(script: &mut String, words: &mut Words<'_>) -> Outcome {
 }
 
 /// Takes widths, a bar and heights.
-pub fn tell_sizes(sizes: &mut Option<Sizes>, words: &mut Words<'_>) -> Outcome {
+fn tell_sizes(sizes: &mut Option<Sizes>, words: &mut Words<'_>) -> Outcome {
     *sizes = Some((numbers_to(words, "|")?, numbers_to(words, "")?));
     Ok(())
 }

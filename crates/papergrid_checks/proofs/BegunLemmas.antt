@@ -15,9 +15,9 @@ use Rattle.papergrid_layout.specs.declared.sizing.Sizing.TheVariants.{ByShares, 
 use Rattle.papergrid_draw.specs.Drawings.{Drawing}
 use Rattle.papergrid_draw.specs.Margins.{printed_lines}
 use Rattle.papergrid_grid.specs.Lined.{ended_lines, lined}
-use Rattle.papergrid_script.specs.Estimates.{text_measure}
-use Rattle.papergrid.specs.declared.running.RunFault.{RunFault}
-use Rattle.papergrid.specs.declared.running.RunFault.TheVariants.{Memory, Read, Write}
+use Rattle.papergrid_walk.specs.Measures.{text_measure}
+use Rattle.papergrid_script.specs.declared.reading.RunFault.{RunFault}
+use Rattle.papergrid_script.specs.declared.reading.RunFault.TheVariants.{Memory, Read, Write}
 use Rattle.papergrid_csv.specs.Pictures.{IsCsvRun}
 use Rattle.papergrid_csv.specs.Rows.{config_of, greatest_length}
 use Rattle.papergrid_csv.specs.declared.request.Request.{Request}

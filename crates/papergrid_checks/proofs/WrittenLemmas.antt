@@ -3,8 +3,8 @@ use Rattle.std.proofs.Common.{◌≡◌, ℕ, List, [], Option, refl, subst, sym
 use Rattle.std.specs.Prelude.{Err, Ok, OnErr, Result, take}
 use Rattle.std.specs.Io.KnownBytes.{Appends}
 use Rattle.std.proofs.KnownBytes.{Appends-nil}
-use Rattle.papergrid.specs.declared.running.RunFault.{RunFault}
-use Rattle.papergrid.specs.declared.running.RunFault.TheVariants.{Memory, Read, Write}
+use Rattle.papergrid_script.specs.declared.reading.RunFault.{RunFault}
+use Rattle.papergrid_script.specs.declared.reading.RunFault.TheVariants.{Memory, Read, Write}
 
 -- a beginning, whatever the fault: none but a failed write comes after the first byte
 pub begun : {X : Type 0} (result : Result X RunFault) (old new : Option (List ℕ)) (whole : List ℕ)

@@ -1,9 +1,9 @@
 //! The worked tables of the documents, and what worked cases as data can't tell: the words of errors, tables of a caller's
-//! own types, and the law of layouts. Scripts that end after any byte, readers and writers that fail, stall, or move few
-//! bytes, and writers that take a beginning of a picture alone.
+//! own types, the law of layouts, drawn tables that no document tells, readers and writers that fail once, and writers that
+//! take a beginning of a picture alone. In `refused`, calls whose allocations fail.
 
 mod crossings;
-mod cuts;
+mod drawn;
 mod ends;
 mod layouts;
 mod messages;
@@ -11,6 +11,7 @@ mod of_csv;
 mod of_documents;
 mod own_types;
 mod places;
+mod refused;
 mod scripts;
 mod shown;
 mod types_of_laws;
@@ -26,9 +27,7 @@ use papergrid::config::spanned::SpannedConfig;
 use papergrid::dimension::LayoutError;
 use papergrid::records::IterRecords;
 use papergrid::records::vec_records::Text;
-use papergrid::{ReadSource, RunEnd, RunFault, WriteSink, run};
 use std::alloc::{AllocError, Global};
-use std::io::{Read, Write};
 
 /// These rows of texts, as lists.
 fn rows_of(alloc: Global, texts: &[&[&'static str]]) -> Result<Vec<Vec<&'static str>>, AllocError> {
@@ -60,19 +59,6 @@ fn measured_row(
         row.push(Text::new(alloc, *text)?)?;
     }
     Ok(row)
-}
-
-/// How a run ends between a reader and a writer of std.
-fn run_between<R: Read + Drop, W: Write + Drop>(
-    alloc: Global,
-    reader: R,
-    writer: W,
-) -> Result<RunEnd, RunFault> {
-    run(
-        alloc,
-        &mut ReadSource::new(reader),
-        &mut WriteSink::new(writer),
-    )
 }
 
 /// Two rows of three texts.

@@ -3,6 +3,7 @@ use Rattle.std.specs.Prelude.{◌≡◌, List}
 use Rattle.papergrid_values.specs.declared.position.Position.{Position}
 use Rattle.papergrid_maps.specs.StoredMap.{stored_value}
 use Rattle.papergrid_config.specs.Effective as effective
+use Rattle.papergrid_config.specs.History.{HasSettingHistory}
 use Rattle.papergrid_config.specs.Made.{characters_of, spans_of}
 use Rattle.papergrid_config.specs.declared.setting.Setting.{Setting}
 use Rattle.papergrid_config.specs.declared.spanned.SpannedConfig.{SpannedConfig}
@@ -20,3 +21,8 @@ pub record HoldsEffectiveValues (settings : List Setting) (config : SpannedConfi
   pub justification_color : (p : Position) → stored_value config.justification_color p ≡ effective.justification_color settings p
   pub characters : config.characters ≡ characters_of settings
   pub spans : config.spans ≡ spans_of settings
+
+-- a configuration that the settings tell, and so one that holds for each cell what they decide
+pub record IsConfiguredBy (settings : List Setting) (config : SpannedConfig) : Type 0 where
+  pub told : HasSettingHistory settings config
+  pub effective : HoldsEffectiveValues settings config

@@ -5,11 +5,11 @@ use Rattle.std.specs.Prelude.{IsErrOf}
 use Rattle.std.specs.declared.alloc.AllocError.{AllocError}
 use Rattle.papergrid_draw.specs.declared.error.DrawError.{DrawError}
 use Rattle.papergrid_draw.specs.declared.error.DrawError.TheVariants as draw_errors
-use Rattle.papergrid.specs.Pictures.{IsRefusal}
-use Rattle.papergrid.specs.declared.running.RunFault.{RunFault}
-use Rattle.papergrid.specs.declared.running.RunFault.TheVariants as run_faults
-use Rattle.papergrid.proofs.PictureLemmas.{same-writer}
-use Rattle.papergrid.specs.ForProofs.Drawn.{HasBegun, IsSteady}
+use Rattle.papergrid_grid.specs.Pictures.{IsRefusal}
+use Rattle.papergrid_script.specs.declared.reading.RunFault.{RunFault}
+use Rattle.papergrid_script.specs.declared.reading.RunFault.TheVariants as run_faults
+use Rattle.papergrid_grid.proofs.PictureLemmas.{same-writer}
+use Rattle.papergrid_grid.specs.ForProofs.Drawn.{HasBegun, IsSteady}
 use Rattle.papergrid_draw.specs.ForProofs.Sinks.{HasEnded}
 use Rattle.papergrid_csv.specs.ForProofs.Drawn.{IsCsvBrokenOff, RunsCsv, end_refused}
 use Rattle.papergrid_csv.specs.declared.run.CsvEnd.{CsvEnd}

@@ -2,7 +2,7 @@
 
 ghost use Rattle.std.specs.Prelude.{◌≡◌, ◌⊎◌, ◌↔◌, ℕ, IfOk, IfSome, IsErrOf, IsTrue, List, OnErr, OnOk, false, take, true};
 ghost use Rattle.std.specs.Io.KnownBytes.{Appends, Consumes, IsAtEnd};
-ghost use Rattle.papergrid.specs.Runs.{IsWholeInput};
+ghost use Rattle.papergrid_script.specs.Inputs.{IsWholeInput};
 ghost use Rattle.papergrid_csv.specs.Rows.{held_texts};
 ghost use Rattle.papergrid_csv.specs.Within.{IsRunWithin, cut_request};
 ghost use Rattle.papergrid_csv.specs.ForProofs.Drawn.{RunsCsv};
@@ -14,8 +14,8 @@ use crate::request::Request;
 use crate::run::{CsvEnd, draw_rows, end_unread};
 use crate::widest::widest_line;
 use bumpalo::Bump;
-use papergrid::{RunFault, read_all};
 use papergrid_draw::transfer::{Sink, Source};
+use papergrid_script::reading::{RunFault, read_all};
 use std::alloc::Global;
 
 /// Like `run_csv`, with each field cut by the greatest cut of at most so many columns by which the table is no wider than

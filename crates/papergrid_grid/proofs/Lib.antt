@@ -6,3 +6,4 @@ pub mod GridLemmas
 pub mod HeldLemmas
 pub mod LinedLemmas
 pub mod OwnerLemmas
+pub mod PictureLemmas

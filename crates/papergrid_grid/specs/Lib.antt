@@ -4,4 +4,5 @@ pub mod Compact
 pub mod Crossings
 pub mod ForProofs
 pub mod Lined
+pub mod Pictures
 pub mod Sized

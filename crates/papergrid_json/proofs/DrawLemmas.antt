@@ -19,12 +19,12 @@ use Rattle.papergrid_draw.specs.declared.error.DrawError.TheVariants as draw_err
 use Rattle.papergrid_grid.specs.Cells.{lines_at, text_lines}
 use Rattle.papergrid_grid.specs.Lined.{lined}
 use Rattle.papergrid_text.proofs.RowSteps.{told_by}
-use Rattle.papergrid_script.specs.Estimates.{text_measure}
-use Rattle.papergrid.specs.Layouts.{IsConfiguredBy}
-use Rattle.papergrid.specs.Pictures.{IsRefusal}
-use Rattle.papergrid.specs.ForProofs.Drawn.{IsSteady}
+use Rattle.papergrid_walk.specs.Measures.{text_measure}
+use Rattle.papergrid_config.specs.Laws.{IsConfiguredBy}
+use Rattle.papergrid_grid.specs.Pictures.{IsRefusal}
+use Rattle.papergrid_grid.specs.ForProofs.Drawn.{IsSteady}
 use Rattle.papergrid_draw.specs.ForProofs.Sinks.{HasEnded}
-use Rattle.papergrid.proofs.PictureLemmas.{no-sizes-seen, room-in, same-writer, sizes-seen}
+use Rattle.papergrid_grid.proofs.PictureLemmas.{no-sizes-seen, room-in, same-writer, sizes-seen}
 use Rattle.papergrid_json.specs.Pictures.{AreNoSizesOf, AreSizesOf, IsDocumentDrawing, IsDocumentFault, IsDocumentTable, IsDocumentDrawingWith, IsDocumentFaultWith, Undrawn, Unsized, document_texts}
 use Rattle.papergrid_json.specs.ForProofs.Drawn.{DrawsLines, AreLinesUndrawn}
 use Rattle.papergrid_json.specs.declared.document.Document.{Document}

@@ -12,8 +12,8 @@ use Rattle.papergrid_draw.specs.Errors.{draw_error_of}
 use Rattle.papergrid_draw.specs.Faults.{IsDrawFault}
 use Rattle.papergrid_draw.specs.declared.error.DrawError.{DrawError}
 use Rattle.papergrid_grid.specs.Cells.{lines_at, text_lines}
-use Rattle.papergrid_script.specs.Estimates.{text_measure}
-use Rattle.papergrid.specs.Layouts.{IsConfiguredBy}
+use Rattle.papergrid_walk.specs.Measures.{text_measure}
+use Rattle.papergrid_config.specs.Laws.{IsConfiguredBy}
 use Rattle.papergrid_json.specs.declared.document.Document.{Document}
 use Rattle.papergrid_json.specs.declared.document.OwnSizes.{OwnSizes}
 

@@ -7,8 +7,8 @@ ghost use Rattle.papergrid_draw.specs.declared.error.DrawError.TheVariants.{Writ
 ghost use Rattle.papergrid_draw.specs.declared.room.Room.TheVariants.{Known};
 ghost use Rattle.papergrid_grid.specs.Lined.{lined};
 ghost use Rattle.papergrid_layout.specs.Answers.{UnlessMemory};
-ghost use Rattle.papergrid.specs.Layouts.{IsConfiguredBy};
-ghost use Rattle.papergrid.specs.Pictures.{IsRefusal};
+ghost use Rattle.papergrid_config.specs.Laws.{IsConfiguredBy};
+ghost use Rattle.papergrid_grid.specs.Pictures.{IsRefusal};
 ghost use Rattle.papergrid_json.specs.Documents.{AreInRange};
 ghost use Rattle.papergrid_json.specs.Pictures.{IsDocumentDrawing, IsDocumentFault, IsDocumentTable, IsDocumentDrawingWith, IsDocumentFaultWith};
 ghost use Rattle.papergrid_json.specs.ForProofs.Drawn.{DrawsLines};

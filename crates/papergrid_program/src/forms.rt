@@ -13,7 +13,7 @@ pub struct Form {
 }
 
 /// All forms but the empty line.
-pub const FORMS: [Form; 11] = [
+const FORMS: [Form; 11] = [
     Form {
         keyword: "columns",
         spelled: "columns N",
@@ -78,9 +78,20 @@ pub fn form_of(keyword: &str) -> Option<Form> {
 
 /// The form whose keyword is most like the word, if two letters at most differ and not all of them.
 pub fn form_like(alloc: Global, word: &str) -> Result<Option<Form>, AllocError> {
-    let keywords = FORMS.map(|form| form.keyword);
+    let mut keywords = Vec::with_capacity(alloc, FORMS.len())?;
+    for form in &FORMS {
+        keywords.push(form.keyword)?;
+    }
     match name_like(alloc, word, &keywords)? {
         Some(keyword) => Ok(form_of(keyword)),
         None => Ok(None),
     }
+}
+
+/// Adds the lines that a script may have to a text, each with what it does.
+pub fn add_forms(text: &mut String) -> Result<(), AllocError> {
+    for form in &FORMS {
+        writeln!(text, "  {:<34}{}", form.spelled, form.does)?;
+    }
+    Ok(())
 }

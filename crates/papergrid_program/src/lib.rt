@@ -11,7 +11,7 @@ mod output;
 
 pub use arguments::{Request, Unexpected, Wanted, asked_by, asked_for};
 pub use endings::{fault, status, told, unexpected, unopened, unread_words};
-pub use forms::FORMS;
+pub use forms::add_forms;
 pub use message::message_of;
 pub use names::{STANDARD_INPUT, name_like, not_an_option, quoted, shown};
 pub use output::Output;

@@ -11,7 +11,6 @@ mod settings;
 mod sizes;
 mod tables;
 mod texts;
-mod whole;
 
 ghost use Rattle.std.specs.Prelude.{◌≡◌};
 

@@ -25,7 +25,8 @@ use Rattle.papergrid_layout.specs.Certificates.{certificate_by_shares}
 use Rattle.papergrid_layout.proofs.PairLemmas.{none_overflows}
 use Rattle.papergrid_layout.specs.declared.sizing.Sizing.{Sizing}
 use Rattle.papergrid_layout.specs.declared.sizing.Sizing.TheVariants.{ByShares, Least}
-use Rattle.papergrid_script.specs.Estimates.{Estimate, OutOfTable, TooLarge, Sized, unless_large, unless_out, text_measure, sizes_by, certificate_by, estimate_by, estimate_of}
+use Rattle.papergrid_script.specs.Estimates.{Estimate, OutOfTable, TooLarge, Sized, unless_large, unless_out, sizes_by, certificate_by, estimate_by, estimate_of}
+use Rattle.papergrid_walk.specs.Measures.{text_measure}
 use Rattle.papergrid_script.specs.Grids.{grid_of}
 use Rattle.papergrid_script.specs.Scripts.{Table}
 use Rattle.papergrid_script.specs.Totals.{AreSized, IsTableTooLarge, problem_of_table}

@@ -31,7 +31,8 @@ use Rattle.papergrid_maps.specs.Grids.{Grid, size_after, size_before}
 use Rattle.papergrid_config.specs.Grids.{line_along}
 use Rattle.papergrid_layout.specs.declared.sizing.Sizing.{Sizing}
 use Rattle.papergrid_script.specs.declared.answer.RunEnd.{RunEnd}
-use Rattle.papergrid_script.specs.Estimates.{Estimate, estimate_by, estimate_of, text_measure}
+use Rattle.papergrid_script.specs.Estimates.{Estimate, estimate_by, estimate_of}
+use Rattle.papergrid_walk.specs.Measures.{text_measure}
 use Rattle.papergrid_script.specs.Grids.{grid_of}
 use Rattle.papergrid_script.specs.Outputs.{estimate_end, estimate_text, script_end, script_text, output_by, end_by}
 use Rattle.papergrid_script.specs.Rows.{GivesBy}

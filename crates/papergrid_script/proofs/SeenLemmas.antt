@@ -8,7 +8,8 @@ use Rattle.papergrid_config.specs.History.{HasSettingHistory}
 use Rattle.papergrid_config.specs.declared.spanned.SpannedConfig.{SpannedConfig}
 use Rattle.papergrid_config.specs.Grids.{spanned_grid}
 use Rattle.papergrid_walk.specs.Measures.{line_measure}
-use Rattle.papergrid_script.specs.Estimates.{Estimate, estimate_by, estimate_of, text_measure}
+use Rattle.papergrid_script.specs.Estimates.{Estimate, estimate_by, estimate_of}
+use Rattle.papergrid_walk.specs.Measures.{text_measure}
 use Rattle.papergrid_script.specs.Grids.{grid_of}
 use Rattle.papergrid_script.specs.Seen.{rows_seen, table_seen}
 use Rattle.papergrid_script.specs.Settings.{setting_told}

@@ -10,7 +10,7 @@ use Rattle.papergrid_tracks.specs.Least.{least_of}
 use Rattle.papergrid_tracks.specs.CriticalPath.{critical_path}
 use Rattle.papergrid_walk.specs.Cells.{problem_of}
 use Rattle.papergrid_maps.specs.Grids.{Grid}
-use Rattle.papergrid_walk.specs.Measures.{line_measure}
+use Rattle.papergrid_walk.specs.Measures.{text_measure}
 use Rattle.papergrid_layout.specs.Answers.{first_out_of_table}
 use Rattle.papergrid_layout.specs.Certificates.{certificate_by_shares}
 use Rattle.papergrid_layout.specs.declared.sizing.Sizing.{Sizing}
@@ -58,10 +58,6 @@ unfoldable pub estimate_by : {C : Type 0} → Sizing → Grid → (C → ℕ × 
 estimate_by sizing grid measure columns rows =
     unless_out (first_out_of_table grid measure columns rows)
     (totalled_sizes sizing (problem_of grid measure columns rows Columns) (problem_of grid measure columns rows Rows))
-
--- a cell of a script is its text
-abbrev pub text_measure : List ℕ → ℕ × ℕ
-text_measure = line_measure (λ text. text)
 
 -- of the table that a script tells
 abbrev pub estimate_of : Sizing → Table → Estimate

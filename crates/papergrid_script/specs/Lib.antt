@@ -1,6 +1,7 @@
 pub mod Estimates
 pub mod Grammar
 pub mod Grids
+pub mod Inputs
 pub mod Outputs
 pub mod Reasons
 pub mod Rows

@@ -12,7 +12,7 @@ use Rattle.papergrid_config.specs.Grids.{line_along}
 use Rattle.papergrid_layout.specs.Answers.{AreTooLargeBy, first_out_of_table}
 use Rattle.papergrid_layout.specs.Certificates.{AreCertified}
 use Rattle.papergrid_layout.specs.declared.sizing.Sizing.{Sizing}
-use Rattle.papergrid_script.specs.Estimates.{text_measure}
+use Rattle.papergrid_walk.specs.Measures.{text_measure}
 use Rattle.papergrid_script.specs.Grids.{grid_of}
 use Rattle.papergrid_script.specs.Scripts.{Table}
 

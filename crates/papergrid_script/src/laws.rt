@@ -11,7 +11,8 @@ ghost use Rattle.papergrid_config.specs.declared.spanned.SpannedConfig.{SpannedC
 ghost use Rattle.papergrid_layout.specs.Answers.{first_out_of_table};
 ghost use Rattle.papergrid_layout.specs.declared.sizing.Sizing.{Sizing};
 ghost use Rattle.papergrid_layout.specs.declared.sizing.Sizing.TheVariants.{ByShares, Least};
-ghost use Rattle.papergrid_script.specs.Estimates.{OutOfTable, Sized, TooLarge, estimate_of, text_measure};
+ghost use Rattle.papergrid_script.specs.Estimates.{OutOfTable, Sized, TooLarge, estimate_of};
+ghost use Rattle.papergrid_walk.specs.Measures.{text_measure};
 ghost use Rattle.papergrid_script.specs.Grammar.{Said, entity_said, number_said, line_says, script_lines};
 ghost use Rattle.papergrid_script.specs.Grids.{grid_of};
 ghost use Rattle.papergrid_script.specs.Outputs.{end_by, output_by};

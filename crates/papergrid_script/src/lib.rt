@@ -10,6 +10,7 @@ pub mod explained;
 pub mod laws;
 mod number;
 pub mod output;
+pub mod reading;
 pub mod script;
 mod script_line;
 pub mod script_setting;

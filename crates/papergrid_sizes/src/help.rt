@@ -1,6 +1,6 @@
 //! What the program says of itself.
 
-use papergrid_program::FORMS;
+use papergrid_program::add_forms;
 use std::alloc::{AllocError, Global};
 
 const TAKEN: &str = "\
@@ -44,9 +44,7 @@ memory, an input that can't be read, an output that can't be written.
 /// What the program takes, the lines of a script, and what comes out.
 pub fn help_text(alloc: Global) -> Result<String, AllocError> {
     let mut text = String::from_str(alloc, TAKEN)?;
-    for form in FORMS {
-        writeln!(text, "  {:<34}{}", form.spelled, form.does)?;
-    }
+    add_forms(&mut text)?;
     text.push_str(WRITTEN)?;
     Ok(text)
 }

@@ -1,6 +1,6 @@
 //! What the program says of itself.
 
-use papergrid_program::FORMS;
+use papergrid_program::add_forms;
 use std::alloc::{AllocError, Global};
 
 const TAKEN: &str = "\
@@ -69,12 +69,4 @@ pub fn help_text(alloc: Global) -> Result<String, AllocError> {
     add_forms(&mut text)?;
     text.push_str(WRITTEN)?;
     Ok(text)
-}
-
-/// Adds the lines of a script.
-fn add_forms(text: &mut String) -> Result<(), AllocError> {
-    for form in &FORMS {
-        writeln!(text, "  {:<34}{}", form.spelled, form.does)?;
-    }
-    Ok(())
 }

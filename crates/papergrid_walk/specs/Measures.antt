@@ -14,3 +14,7 @@ module _ {C : Type 0} where
   -- by the width and the lines that a cell has of its own
   abbrev pub cell_measure : (C → ℕ) → (C → List (List ℕ × ℕ)) → C → ℕ × ℕ
   cell_measure width lines cell = (width cell, length (lines cell))
+
+-- the first of these, of a cell that is its text
+abbrev pub text_measure : List ℕ → ℕ × ℕ
+text_measure = line_measure (λ text. text)

@@ -1,56 +1,22 @@
--- What calls that draw do to a writer.
-use Rattle.std.specs.Prelude.{◌≡◌, ◌≢◌, ◌⊎◌, ℕ, Bool, List, Option, Result, Ok, Err, take}
-use Rattle.std.specs.Io.KnownBytes.{Appends}
-use Rattle.papergrid_values.specs.declared.position.Position.{Position}
-use Rattle.papergrid_draw.specs.Drawings.{Drawing}
-use Rattle.papergrid_draw.specs.declared.error.DrawError.{DrawError}
-use Rattle.papergrid_draw.specs.declared.error.DrawError.TheVariants as draw_errors
+-- What runs that draw do to a writer.
+use Rattle.std.specs.Prelude.{◌≡◌, ◌≢◌, ◌⊎◌, ℕ, Bool, List, Option, Result, Ok, Err}
 use Rattle.papergrid_draw.specs.ForProofs.Sinks.{HasEnded}
-use Rattle.papergrid.specs.Pictures.{IsRefusal}
 use Rattle.papergrid_script.specs.declared.answer.RunEnd.{RunEnd}
-use Rattle.papergrid.specs.declared.running.RunFault.{RunFault}
-use Rattle.papergrid.specs.declared.running.RunFault.TheVariants as run_faults
+use Rattle.papergrid_script.specs.declared.reading.RunFault.{RunFault}
+use Rattle.papergrid_script.specs.declared.reading.RunFault.TheVariants as run_faults
+use Rattle.papergrid_grid.specs.ForProofs.Drawn.{IsWritten, HasBegun, IsSteady}
 
 -- a writer, by what it tells
 module _ {W : Type 0} (contents : W → Option (List ℕ)) (has_failed has_stalled : W → Bool) where
-  -- all of a text was taken
-  pub record IsWritten (old new : W) (text : List ℕ) : Type 0 where
-    pub taken : Appends (contents old) (contents new) text
-    pub works : has_failed new ≡ has_failed old
-    pub moves : has_stalled new ≡ has_stalled old
-
-  -- a beginning of it was
-  abbrev pub HasBegun : W → W → List ℕ → Type 0
-  HasBegun old new text = (n : ℕ) × Appends (contents old) (contents new) (take n text)
-
-  -- it neither failed nor stalled anew
-  abbrev pub IsSteady : W → W → Type 0
-  IsSteady old new = (has_failed new ≡ has_failed old) × (has_stalled new ≡ has_stalled old)
-
-  module _ (IsDrawn : Drawing → Type 0) (IsFault : DrawError → Type 0) (text_of : Drawing → List ℕ) where
-    -- why the text of a drawing was not written whole
-    pub record IsUndrawn (old new : W) (e : DrawError) : Type 0 where
-      pub fault : IsRefusal e → IsFault e
-      pub nothing : IsRefusal e → new ≡ old
-      pub beginning : (new ≡ old) ⊎ ((d : Drawing) × IsDrawn d × HasBegun old new (text_of d))
-      pub write : e ≡ draw_errors.Write → HasEnded contents has_failed has_stalled old new
-      pub steady : (e ≡ draw_errors.Write) ⊎ IsSteady old new
-      pub room : (p : Position) → e ≢ draw_errors.NoRoom p
-
-    -- the text of such a drawing was written, or why it was not
-    abbrev pub Draws : {A : Type 0} → W → W → Result A DrawError → Type 0
-    Draws old new (Ok x) = (d : Drawing) × IsDrawn d × IsWritten old new (text_of d)
-    Draws old new (Err e) = IsUndrawn old new e
-
   module _ (IsOutput : RunEnd → List ℕ → Type 0) where
     -- a run that broke off
     pub record IsBrokenOff (old new : W) (fault : RunFault) : Type 0 where
       pub not_read : fault ≢ run_faults.Read
-      pub beginning : (new ≡ old) ⊎ ((end : RunEnd) × ((output : List ℕ) × IsOutput end output × HasBegun old new output))
+      pub beginning : (new ≡ old) ⊎ ((end : RunEnd) × ((output : List ℕ) × IsOutput end output × HasBegun contents has_failed has_stalled old new output))
       pub write : fault ≡ run_faults.Write → HasEnded contents has_failed has_stalled old new
-      pub steady : (fault ≡ run_faults.Write) ⊎ IsSteady old new
+      pub steady : (fault ≡ run_faults.Write) ⊎ IsSteady contents has_failed has_stalled old new
 
     -- a run wrote an output, and ended accordingly, or it broke off
     abbrev pub Runs : W → W → Result RunEnd RunFault → Type 0
-    Runs old new (Ok end) = (output : List ℕ) × IsOutput end output × IsWritten old new output
+    Runs old new (Ok end) = (output : List ℕ) × IsOutput end output × IsWritten contents has_failed has_stalled old new output
     Runs old new (Err fault) = IsBrokenOff old new fault

@@ -5,8 +5,8 @@ use Rattle.papergrid_layout.specs.Tables.{AreNoSizesBySizing}
 use Rattle.papergrid_layout.specs.declared.sizing.Sizing.{Sizing}
 use Rattle.papergrid_tracks.specs.declared.error.LayoutError.TheVariants as layout_errors
 use Rattle.papergrid_draw.specs.declared.error.DrawError.TheVariants as draw_errors
-use Rattle.papergrid_script.specs.Estimates.{text_measure}
-use Rattle.papergrid.specs.Pictures.{IsFaultWith}
+use Rattle.papergrid_walk.specs.Measures.{text_measure}
+use Rattle.papergrid_grid.specs.Pictures.{IsFaultWith}
 use Rattle.papergrid_builder.specs.Told.{longest}
 use Rattle.papergrid_builder.specs.declared.error.BuilderError.{BuilderError}
 use Rattle.papergrid_builder.specs.declared.error.BuilderError.TheVariants.{Memory, NotTiled, OutOfTable, TooLarge}

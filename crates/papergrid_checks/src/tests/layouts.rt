@@ -12,7 +12,7 @@ use papergrid::{Sizing, layout, layout_least};
 use std::alloc::{AllocError, Global};
 
 /// The settings of the picture.
-fn picture_settings(alloc: Global) -> Result<Vec<Setting>, AllocError> {
+pub fn picture_settings(alloc: Global) -> Result<Vec<Setting>, AllocError> {
     let (four, one) = (Indent::spaced(4), Indent::spaced(1));
     Ok(vec![in alloc;
         Setting::SetBorders(Borders::filled('+')),
@@ -41,7 +41,7 @@ fn are_in_range(settings: &[Setting]) -> bool
 }
 
 /// The widths of a table of so many columns, whose rows are one line high; none where a setting is out of range.
-fn widths_of(
+pub fn widths_of(
     alloc: Global,
     sizing: Sizing,
     settings: Vec<Setting>,
@@ -68,7 +68,7 @@ fn are(found: Result<Option<Vec<usize>>, LayoutError>, widths: &[usize]) -> bool
     matches!(&found, Ok(Some(sizes)) if sizes.as_slice() == widths)
 }
 
-const PICTURE: [&[&str]; 2] = [
+pub const PICTURE: [&[&str]; 2] = [
     &["Papergrid", "is a library", "for print tables", "!"],
     &["", "Just like this", "", ""],
 ];

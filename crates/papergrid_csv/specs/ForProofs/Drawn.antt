@@ -6,7 +6,7 @@ use Rattle.papergrid_values.specs.declared.position.Position.{Position}
 use Rattle.papergrid_config.specs.declared.setting.Setting.{Setting}
 use Rattle.papergrid_config.specs.declared.spanned.SpannedConfig.{SpannedConfig}
 use Rattle.papergrid_layout.specs.Places.{total_along}
-use Rattle.papergrid.specs.ForProofs.Drawn.{HasBegun, IsSteady}
+use Rattle.papergrid_grid.specs.ForProofs.Drawn.{HasBegun, IsSteady}
 use Rattle.papergrid_draw.specs.ForProofs.Sinks.{HasEnded}
 use Rattle.papergrid_draw.specs.Drawings.{Drawing, layout_of}
 use Rattle.papergrid_draw.specs.Faults.{IsDrawFault}
@@ -16,9 +16,9 @@ use Rattle.papergrid_draw.specs.declared.error.DrawError.TheVariants as draw_err
 use Rattle.papergrid_grid.specs.Crossings.{FitCrossings, IsFitFault}
 use Rattle.papergrid_grid.specs.Lined.{lined}
 use Rattle.papergrid_grid.specs.declared.crossings.Junctions.{Junctions}
-use Rattle.papergrid.specs.Pictures.{IsDrawingWith, IsFaultWith, IsRefusal}
-use Rattle.papergrid.specs.declared.running.RunFault.{RunFault}
-use Rattle.papergrid.specs.declared.running.RunFault.TheVariants as run_faults
+use Rattle.papergrid_grid.specs.Pictures.{IsDrawingWith, IsFaultWith, IsRefusal}
+use Rattle.papergrid_script.specs.declared.reading.RunFault.{RunFault}
+use Rattle.papergrid_script.specs.declared.reading.RunFault.TheVariants as run_faults
 use Rattle.papergrid_csv.specs.Judging.{IsFieldHidden, first_missing}
 use Rattle.papergrid_csv.specs.Pictures.{IsConfigured, IsNarrow, IsUnfitted, IsWide}
 use Rattle.papergrid_csv.specs.Requests.{first_row, settings_of}

@@ -4,8 +4,8 @@ use Rattle.papergrid_draw.specs.Drawings.{Drawing}
 use Rattle.papergrid_draw.specs.declared.error.DrawError.{DrawError}
 use Rattle.papergrid_draw.specs.declared.error.DrawError.TheVariants as draw_errors
 use Rattle.papergrid_grid.specs.Lined.{lined}
-use Rattle.papergrid.specs.Pictures.{IsRefusal}
-use Rattle.papergrid.specs.ForProofs.Drawn.{HasBegun, IsSteady, IsWritten}
+use Rattle.papergrid_grid.specs.Pictures.{IsRefusal}
+use Rattle.papergrid_grid.specs.ForProofs.Drawn.{HasBegun, IsSteady, IsWritten}
 use Rattle.papergrid_draw.specs.ForProofs.Sinks.{HasEnded}
 
 -- a writer, by what it tells

@@ -20,13 +20,13 @@ use std::alloc::{AllocError, Global};
 use std::process::Abort;
 use std::test::Fail;
 
-pub fn rows(alloc: Global) -> Result<Vec<Vec<&'static str>>, AllocError> {
+fn rows(alloc: Global) -> Result<Vec<Vec<&'static str>>, AllocError> {
     let first = vec![in alloc; "Papergrid", "is a library", "for print tables", "!"]?;
     let second = vec![in alloc; "", "Just like this", "", ""]?;
     Ok(vec![in alloc; first, second]?)
 }
 
-pub fn settings(alloc: Global) -> Result<Vec<Setting>, AllocError> {
+fn settings(alloc: Global) -> Result<Vec<Setting>, AllocError> {
     let (side, above) = (Indent::spaced(4), Indent::spaced(1));
     Ok(vec![in alloc;
         Setting::SetBorders(Borders::filled('+')),
@@ -37,7 +37,7 @@ pub fn settings(alloc: Global) -> Result<Vec<Setting>, AllocError> {
 }
 
 /// An answer that can be no other error than out of memory.
-pub fn in_table<A>(rt: &impl Abort, answer: Result<A, LayoutError>) -> Result<A, AllocError> {
+fn in_table<A>(rt: &impl Abort, answer: Result<A, LayoutError>) -> Result<A, AllocError> {
     match answer {
         Ok(answer) => Ok(answer),
         Err(LayoutError::Memory(error)) => Err(error),

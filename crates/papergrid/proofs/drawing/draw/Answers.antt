@@ -1,7 +1,7 @@
 use Rattle.papergrid_text.specs.HeldRows.{column_count}
 use Rattle.papergrid_draw.specs.Margins.{printed}
-use Rattle.papergrid.specs.Pictures.{texts_held}
-use Rattle.papergrid.proofs.PictureLemmas.{draw-beginning, draw-fault, draw-moves, draw-nothing, draw-picture, draw-room, draw-steady, draw-works, draw-write}
+use Rattle.papergrid_grid.specs.Pictures.{texts_held}
+use Rattle.papergrid_grid.proofs.PictureLemmas.{draw-beginning, draw-fault, draw-moves, draw-nothing, draw-picture, draw-room, draw-steady, draw-works, draw-write}
 use Rattle.papergrid.proofs.drawing.draw.Goals as goal
 
 pub returns-clause-picture : goal.returns-clause-picture

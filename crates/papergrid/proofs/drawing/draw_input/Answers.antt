@@ -3,7 +3,7 @@ use Rattle.std.specs.Prelude.{codes, decimal}
 use Rattle.papergrid_script.specs.Texts.{newline}
 use Rattle.papergrid.specs.Pictures.{IsPictureRun, IsTablePicture}
 use Rattle.papergrid_script.specs.Seen.{table_seen}
-use Rattle.papergrid.proofs.PictureLemmas.{picture-run-of, runs-also}
+use Rattle.papergrid.proofs.RunLemmas.{picture-run-of, runs-also}
 use Rattle.papergrid.proofs.drawing.draw_input.Goals as goal
 
 pub returns-in-Err-Bad : goal.returns-in-Err-Bad

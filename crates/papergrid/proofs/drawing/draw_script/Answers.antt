@@ -1,12 +1,12 @@
 use Rattle.std.proofs.Common.{map, subst}
 use Rattle.std.proofs.lemmas.Result.{err_from_is_err_and}
 use Rattle.papergrid_grid.specs.Lined.{lined}
-use Rattle.papergrid.specs.Layouts.{IsConfiguredBy}
-use Rattle.papergrid.specs.Pictures.{IsDrawingWith, IsFaultWith}
-use Rattle.papergrid.specs.ForProofs.Drawn.{Draws}
+use Rattle.papergrid_config.specs.Laws.{IsConfiguredBy}
+use Rattle.papergrid_grid.specs.Pictures.{IsDrawingWith, IsFaultWith}
+use Rattle.papergrid_grid.specs.ForProofs.Drawn.{Draws}
 use Rattle.papergrid_script.specs.Seen.{rows_seen, table_seen}
 use Rattle.papergrid_script.specs.Settings.{setting_told}
-use Rattle.papergrid.proofs.PictureLemmas.{run-broken, run-drawn, run-refused}
+use Rattle.papergrid.proofs.RunLemmas.{run-broken, run-drawn, run-refused}
 use Rattle.papergrid.proofs.drawing.draw_script.Goals as goal
 
 pub returns-in-Ok : goal.returns-in-Ok

@@ -1,6 +1,6 @@
 use Rattle.std.proofs.Common.{◌∙◌}
 use Rattle.papergrid.specs.Pictures.{IsPictureRun}
-use Rattle.papergrid.proofs.PictureLemmas.{runs-steady}
+use Rattle.papergrid.proofs.RunLemmas.{runs-steady}
 use Rattle.papergrid.proofs.drawing.run_table.Goals as goal
 
 pub returns-clause-memory_works : goal.returns-clause-memory_works

@@ -1,5 +1,5 @@
 use Rattle.std.proofs.Common.{◌++◌, ℕ, [], length, map, refl}
-use Rattle.papergrid.specs.Layouts.{IsConfiguredBy}
+use Rattle.papergrid_config.specs.Laws.{IsConfiguredBy}
 use Rattle.papergrid_csv.specs.Rows.{row_texts}
 use Rattle.papergrid_csv.specs.ForProofs.Drawn.{Configured, Crossed, IsConfigRun, IsSettingsRun}
 use Rattle.papergrid_csv.proofs.DrawLemmas.{run-refused, runs-also}

@@ -1,0 +1,77 @@
+-- What runs write, and how they end.
+use Rattle.std.proofs.Common.{◌≡◌, ◌≢◌, ◌∙◌, ℕ, Bool, List, Option, Result, Ok, Err, inl, inr, refl, subst, sym}
+use Rattle.std.specs.Prelude.{◌↔◌, IsErrOf}
+use Rattle.papergrid_config.specs.declared.spanned.SpannedConfig.{SpannedConfig}
+use Rattle.papergrid_layout.specs.declared.sizing.Sizing.{Sizing}
+use Rattle.papergrid_draw.specs.Drawings.{Drawing}
+use Rattle.papergrid_draw.specs.declared.error.DrawError.{DrawError}
+use Rattle.papergrid_draw.specs.declared.error.DrawError.TheVariants as draw_errors
+use Rattle.papergrid_grid.specs.Lined.{lined}
+use Rattle.papergrid_config.specs.Laws.{IsConfiguredBy}
+use Rattle.papergrid_script.specs.Scripts.{Table, table_of}
+use Rattle.papergrid_script.specs.declared.answer.RunEnd.{RunEnd}
+use Rattle.papergrid_script.specs.declared.answer.RunEnd.TheVariants.{Done, Refused}
+use Rattle.papergrid_script.specs.declared.reading.RunFault.{RunFault}
+use Rattle.papergrid_script.specs.declared.reading.RunFault.TheVariants as run_faults
+use Rattle.papergrid.specs.Pictures.{IsPictureOf, IsPictureRun, IsTablePicture, refusal_line}
+use Rattle.papergrid_grid.specs.Pictures.{IsDrawingWith, IsFaultWith, IsRefusal}
+use Rattle.papergrid.specs.ForProofs.Drawn.{IsBrokenOff, Runs}
+use Rattle.papergrid_grid.specs.ForProofs.Drawn.{IsSteady, IsWritten, IsUndrawn}
+
+module _ {W : Type 0} (contents : W → Option (List ℕ)) (has_failed has_stalled : W → Bool) where
+  -- a run whose output is so, where another way to say it follows
+  pub runs-also : (IsSo IsAlso : RunEnd → List ℕ → Type 0) → ((end : RunEnd) (output : List ℕ) → IsSo end output → IsAlso end output) → (old new : W) (result : Result RunEnd RunFault) →
+      Runs contents has_failed has_stalled IsSo old new result → Runs contents has_failed has_stalled IsAlso old new result
+  runs-also IsSo IsAlso follows old new (Ok end) so = (so.0, follows end so.0 so.1, so.2)
+  runs-also IsSo IsAlso follows old new (Err fault) so = record {
+    not_read = so.not_read;
+    beginning = elim so.beginning [
+      | inl same ↦ inl same
+      | inr begun ↦ inr (begun.0, (begun.1.0, follows begun.0 begun.1.0 begun.1.1, begun.1.2))
+    ];
+    write = so.write;
+    steady = so.steady;
+  }
+
+  -- where an allocation failed, no write did
+  pub runs-steady : (IsSo : RunEnd → List ℕ → Type 0) (old new : W) (result : Result RunEnd RunFault) → Runs contents has_failed has_stalled IsSo old new result →
+      IsErrOf result run_faults.Memory → IsSteady contents has_failed has_stalled old new
+  runs-steady IsSo old new (Ok end) so is = absurd (let none : ⊥ = cc in none)
+  runs-steady IsSo old new (Err fault) so is =
+      let memory : fault ≡ run_faults.Memory = cc in
+      elim so.steady [ inl write ↦ absurd (let none : ⊥ = cc in none) | inr steady ↦ steady ]
+
+  module _ (sizing : Sizing) (table : Table) (config : SpannedConfig) (told : IsConfiguredBy table.settings config) where
+    abbrev IsSoUndrawn : W → W → DrawError → Type 0
+    IsSoUndrawn old new e = IsUndrawn contents has_failed has_stalled (IsDrawingWith table.columns table.rows sizing config) (IsFaultWith table.columns table.rows sizing config) lined old new e
+
+    -- the picture was written
+    pub run-drawn : (old new : W) → ((d : Drawing) × IsDrawingWith table.columns table.rows sizing config d × IsWritten contents has_failed has_stalled old new (lined d)) →
+        Runs contents has_failed has_stalled (IsTablePicture sizing table) old new (Ok Done)
+    run-drawn old new so = (lined so.0, (so.0, (config, told, so.1), refl), so.2)
+
+    -- it broke off
+    pub run-broken : (old new : W) (e : DrawError) (fault : RunFault) → fault ≢ run_faults.Read → (fault ≡ run_faults.Write) ↔ (e ≡ draw_errors.Write) → IsSoUndrawn old new e →
+        IsBrokenOff contents has_failed has_stalled (IsTablePicture sizing table) old new fault
+    run-broken old new e fault not_read follows so = record {
+      not_read = not_read;
+      beginning = elim so.beginning [
+        | inl same ↦ inl same
+        | inr begun ↦ inr (Done, (lined begun.0, (begun.0, (config, told, begun.1), refl), begun.2))
+      ];
+      write = λ is. so.write (follows.0 is);
+      steady = elim so.steady [ inl is ↦ inl (follows.1 is) | inr steady ↦ inr steady ];
+    }
+
+    -- it was refused, and the line that says so was written
+    pub run-refused : (old between new : W) (e : DrawError) (text : List ℕ) (result : Result RunEnd RunFault) → IsRefusal e → IsSoUndrawn old between e → text ≡ refusal_line e →
+        Runs contents has_failed has_stalled (λ end output. (end ≡ Refused) × (output ≡ text)) between new result → Runs contents has_failed has_stalled (IsTablePicture sizing table) old new result
+    run-refused old between new e text result named so is ran =
+        subst (λ w. Runs contents has_failed has_stalled (IsTablePicture sizing table) w new result) (so.nothing named)
+        (runs-also _ _ (λ end output p. subst (λ x. IsTablePicture sizing table x output) (sym p.0) (e, named, (config, told, so.fault named), p.1 ∙ is)) between new result ran)
+
+-- of an input that tells so much
+pub picture-run-of : (sizing : Sizing) (input : List ℕ) (told : Result Table ℕ) → table_of input ≡ told → (end : RunEnd) (output : List ℕ) →
+    IsPictureOf sizing told end output → IsPictureRun sizing input end output
+unfolding IsPictureRun
+picture-run-of sizing input told is end output so = subst (λ t. IsPictureOf sizing t end output) (sym is) so
