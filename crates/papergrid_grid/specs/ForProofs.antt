@@ -1,4 +1,4 @@
--- What no contract of the public calls reaches: only contracts of private functions, of calls of crates above, and proofs
--- speak of it.
+-- What no contract of the public calls reaches: only contracts of private functions, here and in the crates above, and
+-- proofs speak of it.
 pub mod Crossings
 pub mod Drawn

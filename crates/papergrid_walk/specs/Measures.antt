@@ -15,6 +15,6 @@ module _ {C : Type 0} where
   abbrev pub cell_measure : (C → ℕ) → (C → List (List ℕ × ℕ)) → C → ℕ × ℕ
   cell_measure width lines cell = (width cell, length (lines cell))
 
--- the first of these, of a cell that is its text
+-- of a cell that is its text: by its lines between newlines
 abbrev pub text_measure : List ℕ → ℕ × ℕ
 text_measure = line_measure (λ text. text)

@@ -21,7 +21,8 @@ fn says<A: Drop>(number: usize, of: usize, answer: Result<A, AllocError>) -> Res
 fn lays_out(rt: &(impl Abort + AllocGlobal), number: usize, sizing: Sizing) -> Result<(), Fail> {
     let settings = picture_settings(rt.alloc())?;
     match widths_of(rt.alloc(), sizing, settings, 4, &PICTURE) {
-        Ok(_) => Ok(()),
+        Ok(Some(_)) => Ok(()),
+        Ok(None) => panic!(rt; "a setting is out of range, or a row is not one line high"),
         Err(LayoutError::Memory(error)) => says(number, 2, Err::<(), AllocError>(error)),
         Err(error) => panic!(rt; "{error:?}"),
     }
