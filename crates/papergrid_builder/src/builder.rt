@@ -16,7 +16,7 @@ use std::marker::Model;
 /// has cells. It also keeps what was found of it, until a setting or a text is told, and the picture that was drawn last.
 ///
 /// A call that is refused changes nothing.
-#[derive(Debug, Drop)]
+#[derive(Debug)]
 pub struct Builder {
     settings: Vec<Setting>,
     cells: CellTexts,
@@ -26,6 +26,20 @@ pub struct Builder {
     goes_on: bool,
     found: Option<Found>,
     picture: Vec<u8>,
+}
+
+// By hand: docs/DECISIONS.md, "Drops".
+impl Drop for Builder {
+    fn drop(self) {
+        let Builder {
+            settings: _,
+            cells: _,
+            starts: _,
+            goes_on: _,
+            found: _,
+            picture: _,
+        } = self;
+    }
 }
 
 impl Model for Builder {

@@ -22,10 +22,20 @@ use papergrid_values::Position;
 use std::alloc::{AllocError, Global};
 
 /// A configuration with the sizes that were found by it, and what certifies these.
-#[derive(Debug, Drop)]
+#[derive(Debug)]
 pub struct Found {
     pub config: SpannedConfig,
     pub certified: Certified,
+}
+
+// By hand: docs/DECISIONS.md, "Drops".
+impl Drop for Found {
+    fn drop(self) {
+        let Found {
+            config: _,
+            certified: _,
+        } = self;
+    }
 }
 
 /// What is found of cells, by where each row begins among them, by settings, with the total width and the total height.

@@ -4,6 +4,7 @@
 use crate::answer::Answer;
 use crate::reading::Words;
 use crate::running::Outcome;
+use crate::size_questions::Shown;
 use papergrid_config::SpannedConfig;
 use papergrid_values::{Direction, Position};
 
@@ -19,6 +20,7 @@ pub fn ask(
         "get_row_spans" => answer.spans(&config.get_row_spans()?, words),
         "get_horizontal_lines" => answer.horizontal_lines(&config.get_horizontal_lines()?, words),
         "get_vertical_lines" => answer.vertical_lines(&config.get_vertical_lines()?, words),
+        "padded_cells" => config.padded_cells()?.show(answer),
         _ => ask_flags(config, word, words, answer),
     }
     Ok(())

@@ -4,6 +4,7 @@ use crate::answer::Answer;
 use crate::place_questions::ask_places;
 use crate::reading::Words;
 use crate::running::Outcome;
+use crate::size_questions::Shown;
 use crate::table::Told;
 use papergrid_config::SpannedConfig;
 use papergrid_values::Position;
@@ -18,13 +19,7 @@ pub fn ask_hidden(
 ) -> Outcome {
     match word {
         "hidden" => show_hidden(told.config, words.number(), words.number(), answer),
-        "anchors" => {
-            for anchor in told.config.anchors()?.as_slice() {
-                answer.position(anchor.position);
-                answer.number(anchor.rows);
-                answer.number(anchor.cols);
-            }
-        }
+        "anchors" => told.config.anchors()?.show(answer),
         _ => ask_places(told, word, words, answer),
     }
     Ok(())

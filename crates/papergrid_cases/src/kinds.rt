@@ -6,6 +6,7 @@ use crate::pair::Kind;
 use crate::reading::Words;
 use crate::running::Outcome;
 use crate::sides::Side;
+use crate::size_questions::Shown;
 use papergrid_maps::SpanTable;
 use papergrid_tables::{BorderTable, OffsetTable};
 use papergrid_values::Offset;
@@ -136,6 +137,7 @@ impl Kind for SpanTable {
         match word {
             "columns" => answer.spans(&self.columns()?, words),
             "rows" => answer.spans(&self.rows()?, words),
+            "anchors" => self.anchors()?.show(answer),
             "has_columns" => answer.flag(self.has_columns()),
             "has_rows" => answer.flag(self.has_rows()),
             "get_column" => answer.found_number(self.get_column(words.position())),

@@ -4,6 +4,7 @@ use crate::answer::Answer;
 use crate::pair::Kind;
 use crate::reading::Words;
 use crate::running::Outcome;
+use crate::size_questions::Shown;
 use papergrid_maps::{EntityMap, MapCall};
 use std::alloc::{AllocError, Global};
 use std::mem;
@@ -55,6 +56,7 @@ impl Kind for Map {
                 answer.flag(self.map.any_held(|value| *value == wanted));
             }
             "is_empty" => answer.flag(self.map.is_empty()),
+            "held_cells" => self.map.held_cells()?.show(answer),
             "into_map" => return in_map(self.map.clone()?, words, answer),
             _ => words.lacks("a question"),
         }

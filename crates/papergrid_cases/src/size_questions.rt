@@ -8,6 +8,7 @@ use papergrid_layout::{
     CompactGridDimension, Estimate, IterGridDimension, LayoutError, LayoutResult,
     LeastGridDimension, PeekableGridDimension,
 };
+use papergrid_maps::Anchor;
 use papergrid_text::VecRecords;
 use papergrid_values::Position;
 use std::alloc::{AllocError, Global};
@@ -60,6 +61,17 @@ impl Shown for Vec<Position> {
         }
         if self.is_empty() {
             answer.word("-");
+        }
+    }
+}
+
+/// Each anchor's position, and its rows and columns.
+impl Shown for Vec<Anchor> {
+    fn show(&self, answer: &mut Answer) {
+        for anchor in self.as_slice() {
+            answer.position(anchor.position);
+            answer.number(anchor.rows);
+            answer.number(anchor.cols);
         }
     }
 }
@@ -132,6 +144,30 @@ pub fn ask_sizes(told: Told<'_>, word: &str, words: &mut Words<'_>, answer: &mut
     }
 }
 
+/// Answers a question on the sizes along one direction of measured texts, or by the default compact configuration.
+fn ask_alone(told: Told<'_>, word: &str, words: &mut Words<'_>, answer: &mut Answer) {
+    let (alloc, config, compact) = (told.alloc, told.config, CompactConfig::new());
+    match word {
+        "measured_widths" => show(
+            PeekableGridDimension::width(alloc, told.table.measured(), config),
+            answer,
+        ),
+        "measured_heights" => show(
+            PeekableGridDimension::height(alloc, told.table.measured(), config),
+            answer,
+        ),
+        "compact_widths" => show(
+            CompactGridDimension::width(alloc, told.table.texts(), &compact),
+            answer,
+        ),
+        "compact_heights" => show(
+            CompactGridDimension::height(alloc, told.table.texts(), &compact),
+            answer,
+        ),
+        _ => words.lacks("a question"),
+    }
+}
+
 /// Answers a question on the least sizes.
 fn ask_least(told: Told<'_>, word: &str, words: &mut Words<'_>, answer: &mut Answer) {
     let Told {
@@ -160,7 +196,7 @@ fn ask_least(told: Told<'_>, word: &str, words: &mut Words<'_>, answer: &mut Ans
                 answer,
             );
         }
-        _ => words.lacks("a question"),
+        _ => ask_alone(told, word, words, answer),
     }
 }
 

@@ -71,10 +71,16 @@ fn ask_tab(alloc: Global, text: &str, count: usize, answer: &mut Answer) {
 }
 
 fn ask_measured(alloc: Global, text: String, answer: &mut Answer) -> Outcome {
-    let cell = Text::new(alloc, text)?;
+    let cell = clone_of(Text::new(alloc, text))?;
     show_cell(answer, &cell);
     drop(cell);
     Ok(())
+}
+
+/// A clone of what is made, which has to be like it.
+fn clone_of<T: Clone + Drop>(made: Result<T, AllocError>) -> Result<T, AllocError> {
+    let made = made?;
+    made.clone()
 }
 
 /// Shows a text with a width and lines that are told, each with its width.
@@ -88,7 +94,7 @@ fn ask_exact(alloc: Global, text: String, words: &mut Words<'_>, answer: &mut An
         let line = CowStr::Owned(words.text());
         lines.push(StrWithWidth::new(line, words.number()))?;
     }
-    let cell = Text::exact(text, width, lines);
+    let cell = clone_of(Ok(Text::exact(text, width, lines)))?;
     show_cell(answer, &cell);
     drop(cell);
     Ok(())

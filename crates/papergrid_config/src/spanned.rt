@@ -68,7 +68,7 @@ impl SpannedConfig {
     }
 }
 
-// By hand, since what a derive makes is proved anew in each function that drops a configuration.
+// By hand: docs/DECISIONS.md, "Drops".
 impl Drop for SpannedConfig {
     fn drop(self) {
         let SpannedConfig {

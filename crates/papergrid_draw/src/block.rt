@@ -18,7 +18,6 @@ use std::marker::Model;
 /// The settings of its text, the cell, if the records have one, the colour of the text, and how wide
 /// (in columns of a terminal) and high (in lines) its place is; with what is found of these once:
 /// which lines are shown, how many stand above, and the greatest width of all lines.
-#[derive(Drop)]
 pub struct Block<'a, T: Cell> {
     look: Look<'a>,
     cell: Option<T>,
@@ -29,6 +28,23 @@ pub struct Block<'a, T: Cell> {
     count: usize,
     above: usize,
     block_width: usize,
+}
+
+// By hand: docs/DECISIONS.md, "Drops".
+impl<T: Cell + Drop> Drop for Block<'_, T> {
+    fn drop(self) {
+        let Block {
+            look: _,
+            cell: _,
+            color: _,
+            width: _,
+            height: _,
+            first: _,
+            count: _,
+            above: _,
+            block_width: _,
+        } = self;
+    }
 }
 
 impl<'a, T: Cell> Model for Block<'a, T> {

@@ -41,10 +41,19 @@ impl<'a> Look<'a> {
 
 /// The settings of all cells: where none is set for a column, a row or a cell, those of the whole table, and how
 /// texts stand between blanks by these.
-#[derive(Drop)]
 pub struct Looks<'a> {
     common: Option<Look<'a>>,
     pub blanks: Option<Blanks>,
+}
+
+// By hand: docs/DECISIONS.md, "Drops".
+impl Drop for Looks<'_> {
+    fn drop(self) {
+        let Looks {
+            common: _,
+            blanks: _,
+        } = self;
+    }
 }
 
 /// Whether a setting of a text is set for a column, a row or a cell, or the colour of a padding or

@@ -34,7 +34,6 @@ pub struct Slot<'a, T: Cell> {
 }
 
 /// A table with what is read of it once.
-#[derive(Drop)]
 pub struct Frame<'a> {
     pub table: &'a Table<'a>,
     pub config: &'a SpannedConfig,
@@ -42,6 +41,20 @@ pub struct Frame<'a> {
     pub height: usize,
     pub looks: Looks<'a>,
     pub verticals: Vec<bool>,
+}
+
+// By hand: docs/DECISIONS.md, "Drops".
+impl Drop for Frame<'_> {
+    fn drop(self) {
+        let Frame {
+            table: _,
+            config: _,
+            shape: _,
+            height: _,
+            looks: _,
+            verticals: _,
+        } = self;
+    }
 }
 
 impl<'a> Frame<'a> {

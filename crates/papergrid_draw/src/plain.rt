@@ -32,10 +32,19 @@ pub fn is_plain(config: &SpannedConfig) -> bool
 
 /// What stands on the lines of such a table: the character of the vertical line before each column, and after the last,
 /// where there is one; and the bytes of the horizontal lines between rows that have no line of their own, once one was drawn.
-#[derive(Drop)]
 pub struct PlainLines {
     verticals: Vec<Option<char>>,
     rule: Option<String>,
+}
+
+// By hand: docs/DECISIONS.md, "Drops".
+impl Drop for PlainLines {
+    fn drop(self) {
+        let PlainLines {
+            verticals: _,
+            rule: _,
+        } = self;
+    }
 }
 
 impl PlainLines {

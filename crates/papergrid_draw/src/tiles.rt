@@ -92,10 +92,16 @@ fn raise(until: &mut [usize], row: usize, start: usize, last: usize, end: usize)
 
 /// A walk over the positions of a table, by row and then by column. For each column it keeps the first row that
 /// the last visible cell over it leaves free.
-#[derive(Drop)]
 struct Tiling {
     sweep: Sweep,
     until: Vec<usize>,
+}
+
+// By hand: docs/DECISIONS.md, "Drops".
+impl Drop for Tiling {
+    fn drop(self) {
+        let Tiling { sweep: _, until: _ } = self;
+    }
 }
 
 impl Tiling {

@@ -119,12 +119,23 @@ fn row_height(config: &CompactConfig, rows: usize) -> Result<usize, DrawError>
 }
 
 /// A configuration, the cells of each row, how many columns there are, and how high each row is.
-#[derive(Drop)]
 pub struct CompactTable<T> {
     pub config: SpannedConfig,
     pub rows: Vec<Vec<T>>,
     pub columns: usize,
     pub height: usize,
+}
+
+// By hand: docs/DECISIONS.md, "Drops".
+impl<T: Drop> Drop for CompactTable<T> {
+    fn drop(self) {
+        let CompactTable {
+            config: _,
+            rows: _,
+            columns: _,
+            height: _,
+        } = self;
+    }
 }
 
 /// The table of these records by a compact configuration.

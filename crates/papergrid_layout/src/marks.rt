@@ -11,10 +11,17 @@ use papergrid_maps::Anchor;
 use papergrid_values::PerDirection;
 
 /// Where each track begins and where it ends.
-#[derive(Debug, Drop)]
+#[derive(Debug)]
 pub struct Marks {
     pub begins: Vec<usize>,
     pub ends: Vec<usize>,
+}
+
+// By hand: docs/DECISIONS.md, "Drops".
+impl Drop for Marks {
+    fn drop(self) {
+        let Marks { begins: _, ends: _ } = self;
+    }
 }
 
 impl Marks {

@@ -31,13 +31,25 @@ use std::marker::Model;
 /// A configuration, with the widths of the columns and the heights of the rows of a table, whose totals
 /// fit `usize`. It has as many columns and rows as there are widths and heights. Where its columns and rows
 /// begin is kept, and so are its cells that span several of them.
-#[derive(Drop)]
 pub struct Table<'a> {
     config: &'a SpannedConfig,
     sizes: PerDirection<Vec<usize>>,
     totals: PerDirection<usize>,
     marks: PerDirection<Marks>,
     spanning: Vec<SpanningCell>,
+}
+
+// By hand: docs/DECISIONS.md, "Drops".
+impl Drop for Table<'_> {
+    fn drop(self) {
+        let Table {
+            config: _,
+            sizes: _,
+            totals: _,
+            marks: _,
+            spanning: _,
+        } = self;
+    }
 }
 
 impl<'a> Model for Table<'a> {

@@ -60,7 +60,7 @@ impl<T> Model for EntityMap<T> {
     ghost view = { λ m. record { global = m.global; columns = map.from_entries m.columns.entries; rows = map.from_entries m.rows.entries; cells = map.from_entries m.cells.entries } };
 }
 
-// By hand, since what a derive makes is proved anew in each function that drops a map.
+// By hand: docs/DECISIONS.md, "Drops".
 impl<T: Drop> Drop for EntityMap<T> {
     fn drop(self) {
         let EntityMap {

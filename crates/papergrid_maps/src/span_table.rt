@@ -56,7 +56,7 @@ impl Model for SpanTable {
         × AreFromTwo s.columns.spans × AreFromTwo s.rows.spans × HoldsBoth s.columns s.rows.spans s.both };
 }
 
-// By hand, since what a derive makes is proved anew in each function that drops a table.
+// By hand: docs/DECISIONS.md, "Drops".
 impl Drop for SpanTable {
     fn drop(self) {
         let SpanTable {

@@ -13,7 +13,6 @@ use std::alloc::{AllocError, Global};
 
 /// What the lines of a script have told so far. The cells of the last row are gathered apart, and moved
 /// to the arena at its end, so that no row has a block of memory of its own.
-#[derive(Drop)]
 pub struct Draft<'a> {
     /// The number of columns.
     pub columns: usize,
@@ -25,6 +24,19 @@ pub struct Draft<'a> {
     pub last: Vec<&'a str>,
     /// Where texts with escapes are kept, and the rows that have ended.
     pub arena: &'a Bump,
+}
+
+// By hand: docs/DECISIONS.md, "Drops".
+impl Drop for Draft<'_> {
+    fn drop(self) {
+        let Draft {
+            columns: _,
+            settings: _,
+            rows: _,
+            last: _,
+            arena: _,
+        } = self;
+    }
 }
 
 impl<'a> Draft<'a> {

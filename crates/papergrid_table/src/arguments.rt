@@ -20,7 +20,6 @@ use std::alloc::{AllocError, Global};
 use std::env::Args;
 
 /// What is to be done, and how.
-#[derive(Drop)]
 pub struct Wanted {
     pub kind: Kind,
     /// What is asked of the table of a text. Its sizing is that of a script or document too.
@@ -33,6 +32,20 @@ pub struct Wanted {
     pub check: Option<String>,
     /// Whether the form of documents is told, and nothing else is done.
     pub explains_json: bool,
+}
+
+// By hand: docs/DECISIONS.md, "Drops".
+impl Drop for Wanted {
+    fn drop(self) {
+        let Wanted {
+            kind: _,
+            request: _,
+            width: _,
+            witness: _,
+            check: _,
+            explains_json: _,
+        } = self;
+    }
 }
 
 /// Why arguments are not taken.
@@ -62,7 +75,6 @@ pub enum Kind {
 }
 
 /// What the words so far tell.
-#[derive(Drop)]
 struct Draft {
     alloc: Global,
     asked: Option<Asked>,
@@ -76,6 +88,24 @@ struct Draft {
     of_fields: Option<&'static str>,
     /// What they ask for. Its kind and its lines are chosen at the end.
     wanted: Wanted,
+}
+
+// By hand: docs/DECISIONS.md, "Drops".
+impl Drop for Draft {
+    fn drop(self) {
+        let Draft {
+            alloc: _,
+            asked: _,
+            takes_options: _,
+            kind: _,
+            delimiter: _,
+            style: _,
+            pad: _,
+            fits: _,
+            of_fields: _,
+            wanted: _,
+        } = self;
+    }
 }
 
 /// What the words after the program's name ask for, of which input or of the program itself, and how: options in any

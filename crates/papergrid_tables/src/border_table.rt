@@ -20,11 +20,12 @@ use papergrid_values::{Border, Borders, HorizontalLine, Position, VerticalLine};
 use std::alloc::{AllocError, Global};
 use std::collections::HashMap;
 use std::marker::Model;
+use std::mem;
 
 /// A value for all lines, a frame, horizontal lines by row, vertical lines by column, and the
 /// edges and corners of cells by position. Neighbouring cells share edges and corners. What is
 /// stored on each line is counted, so that a line is found without a look at all of it.
-#[derive(Debug, Drop)]
+#[derive(Debug)]
 pub struct BorderTable<T> {
     global: Option<T>,
     frame: Borders<T>,
@@ -33,6 +34,21 @@ pub struct BorderTable<T> {
     horizontal_edges: Edges<T>,
     vertical_edges: Edges<T>,
     corners: Corners<T>,
+}
+
+// By hand: docs/DECISIONS.md, "Drops".
+impl<T: Drop> Drop for BorderTable<T> {
+    fn drop(self) {
+        let BorderTable {
+            global: _,
+            frame: _,
+            horizontal_lines: _,
+            vertical_lines: _,
+            horizontal_edges: _,
+            vertical_edges: _,
+            corners: _,
+        } = self;
+    }
 }
 
 impl<T> Model for BorderTable<T> {
@@ -346,7 +362,8 @@ impl<T: Drop> BorderTable<T> {
     pub fn set_borders(&mut self, borders: Borders<T>)
         ensures { AppendsHistory HasBorderHistory self.old self.new (SetBorders borders ∷ []) }
     {
-        self.frame = borders;
+        // By a call, since an assignment drops each part of the old frame.
+        drop(mem::replace(&mut self.frame, borders));
     }
 
     /// Sets the value for all lines.

@@ -67,11 +67,22 @@ impl<T> Ended for VerticalLine<T> {
 }
 
 /// Lines by number, and how many of them have their first end set, and how many their last end.
-#[derive(Debug, Drop, Clone)]
+#[derive(Debug, Clone)]
 pub(crate) struct Lines<L> {
     pub(crate) values: HashMap<usize, L>,
     first_ends: usize,
     last_ends: usize,
+}
+
+// By hand: docs/DECISIONS.md, "Drops".
+impl<L: Drop> Drop for Lines<L> {
+    fn drop(self) {
+        let Lines {
+            values: _,
+            first_ends: _,
+            last_ends: _,
+        } = self;
+    }
 }
 
 impl<L> Lines<L> {

@@ -16,18 +16,38 @@ use std::alloc::{AllocError, Global};
 use std::collections::HashMap;
 
 /// Edges by position, and how many of them stand on each line of one direction.
-#[derive(Debug, Drop, Clone)]
+#[derive(Debug, Clone)]
 pub(crate) struct Edges<T> {
     pub(crate) values: HashMap<Position, T>,
     pub(crate) on_lines: LineCounts,
 }
 
+// By hand: docs/DECISIONS.md, "Drops".
+impl<T: Drop> Drop for Edges<T> {
+    fn drop(self) {
+        let Edges {
+            values: _,
+            on_lines: _,
+        } = self;
+    }
+}
+
 /// Corners by position, and how many of them stand in each row and in each column.
-#[derive(Debug, Drop, Clone)]
+#[derive(Debug, Clone)]
 pub(crate) struct Corners<T> {
     pub(crate) values: HashMap<Position, T>,
     pub(crate) in_rows: LineCounts,
     pub(crate) in_columns: LineCounts,
+}
+
+impl<T: Drop> Drop for Corners<T> {
+    fn drop(self) {
+        let Corners {
+            values: _,
+            in_rows: _,
+            in_columns: _,
+        } = self;
+    }
 }
 
 impl<T> Edges<T> {

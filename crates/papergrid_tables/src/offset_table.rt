@@ -16,17 +16,36 @@ use std::collections::HashMap;
 use std::marker::Model;
 
 /// A value for each offset of a position that has one.
-#[derive(Debug, Drop)]
+#[derive(Debug)]
 pub struct OffsetTable<T> {
     alloc: Global,
     overrides: HashMap<Position, Overrides<T>>,
 }
 
+// By hand: docs/DECISIONS.md, "Drops".
+impl<T: Drop> Drop for OffsetTable<T> {
+    fn drop(self) {
+        let OffsetTable {
+            alloc: _,
+            overrides: _,
+        } = self;
+    }
+}
+
 // The values of one position, by offsets from either end.
-#[derive(Debug, Drop)]
+#[derive(Debug)]
 struct Overrides<T> {
     from_start: HashMap<usize, T>,
     from_end: HashMap<usize, T>,
+}
+
+impl<T: Drop> Drop for Overrides<T> {
+    fn drop(self) {
+        let Overrides {
+            from_start: _,
+            from_end: _,
+        } = self;
+    }
 }
 
 impl<T> Model for Overrides<T> {

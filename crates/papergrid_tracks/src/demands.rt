@@ -14,7 +14,7 @@ use std::alloc::{AllocError, Global};
 /// first of greatest minimum size, and the rest as they came. A minimum size above the greatest
 /// `usize` is kept as that one, and is remembered: cells that overflow the table are looked for
 /// before it counts.
-#[derive(Debug, Drop)]
+#[derive(Debug)]
 pub struct Demands {
     /// By their numbers. Where no cell has a minimum size, a cell stands of minimum size 0.
     pub single_span: Vec<Demand>,
@@ -22,6 +22,18 @@ pub struct Demands {
     pub is_large: bool,
     /// A cell that covers one track alone is in the table where that is below this limit.
     pub limit: usize,
+}
+
+// By hand: docs/DECISIONS.md, "Drops".
+impl Drop for Demands {
+    fn drop(self) {
+        let Demands {
+            single_span: _,
+            rest: _,
+            is_large: _,
+            limit: _,
+        } = self;
+    }
 }
 
 /// A cell of minimum size 0.

@@ -17,11 +17,21 @@ use crate::lines::Lines;
 use std::alloc::{AllocError, Global};
 
 /// The lowest and the highest positions of the boundaries, and their total with all lines.
-#[derive(Drop)]
 pub struct Limits {
     pub lowest_position: Vec<usize>,
     pub highest_position: Vec<usize>,
     pub total: usize,
+}
+
+// By hand: docs/DECISIONS.md, "Drops".
+impl Drop for Limits {
+    fn drop(self) {
+        let Limits {
+            lowest_position: _,
+            highest_position: _,
+            total: _,
+        } = self;
+    }
 }
 
 /// As many zeros, and then one more number.

@@ -70,12 +70,23 @@ fn keep_along(
 }
 
 /// What a walk reads of settings: which cells are visible, their spans and their paddings.
-#[derive(Drop)]
 pub struct View<'a, S> {
     alloc: Global,
     settings: &'a S,
     sweep: Sweep,
     known: KnownPaddings,
+}
+
+// By hand: docs/DECISIONS.md, "Drops".
+impl<S> Drop for View<'_, S> {
+    fn drop(self) {
+        let View {
+            alloc: _,
+            settings: _,
+            sweep: _,
+            known: _,
+        } = self;
+    }
 }
 
 impl<'a, S: ConfigView> View<'a, S> {

@@ -16,12 +16,24 @@ use std::alloc::{AllocError, Global};
 use std::marker::Model;
 
 /// The anchors in order, and how far a walk over so many columns has come among them.
-#[derive(Debug, Drop)]
+#[derive(Debug)]
 pub struct Sweep {
     anchors: Vec<Anchor>,
     next: usize,
     columns: usize,
     max_tree: MaxTree,
+}
+
+// By hand: docs/DECISIONS.md, "Drops".
+impl Drop for Sweep {
+    fn drop(self) {
+        let Sweep {
+            anchors: _,
+            next: _,
+            columns: _,
+            max_tree: _,
+        } = self;
+    }
 }
 
 impl Model for Sweep {

@@ -51,7 +51,8 @@ pub fn widths_of(
     if !are_in_range(&settings) {
         return Ok(None);
     }
-    let records = IterRecords::new(rows_of(alloc, texts)?, columns, None);
+    let rows = rows_of(alloc, texts)?;
+    let records = IterRecords::new(rows.as_slice(), columns, None);
     let (widths, heights) = match sizing {
         Sizing::ByShares => layout(alloc, settings, records)?.get_values(),
         Sizing::Least => layout_least(alloc, settings, records)?.get_values(),

@@ -1,6 +1,7 @@
 //! What errors say, as the guide has it.
 
 use crate::errors::first_place;
+use crate::tests::rows_of;
 use papergrid::RunFault;
 use papergrid::config::Position;
 use papergrid::config::spanned::{Setting, Stopped};
@@ -70,9 +71,10 @@ fn says_of_span(
     span: usize,
     words: &str,
 ) -> Result<bool, AllocError> {
-    let settings = vec![in alloc; Setting::SetColumnSpan(position, span)]?;
-    let row = vec![in alloc; "one", "two"]?;
-    match first_place(alloc, settings, &[row]) {
+    let rows = rows_of(alloc, &[&["one", "two"]])?;
+    let mut settings = Vec::new(alloc);
+    settings.push(Setting::SetColumnSpan(position, span))?;
+    match first_place(alloc, settings, &rows) {
         Ok(_) => Ok(false),
         Err(error) => Ok(format!(in alloc; "{error:#}")?.as_str() == words),
     }

@@ -8,6 +8,7 @@ use papergrid_config::{CompactConfig, SpannedConfig};
 use papergrid_layout::{CompactGridDimension, Dimension, Estimate, IterGridDimension, LayoutError};
 use papergrid_text::VecRecords;
 use std::alloc::{AllocError, Global};
+use std::test::Fail;
 
 fn row_of(alloc: Global, texts: &[&str]) -> Result<Vec<String>, AllocError> {
     let mut row = Vec::new(alloc);
@@ -32,22 +33,6 @@ fn records_of(
     Ok(VecRecords::with_size(held, 0, columns))
 }
 
-/// What is answered of records by a configuration where nothing is set.
-fn by_default<A: Drop, F>(
-    alloc: Global,
-    records: VecRecords<String>,
-    ask: F,
-) -> Result<A, LayoutError>
-where
-    F: FnOnce(Global, VecRecords<String>, &SpannedConfig) -> Result<A, LayoutError>,
-    requires { F.IsAlwaysCallable ask }
-{
-    let config = SpannedConfig::new(alloc);
-    let answer = ask(alloc, records, &config);
-    drop(config);
-    answer
-}
-
 /// Whether the widths are the same, lent and by value.
 fn is_same_lent(
     alloc: Global,
@@ -60,23 +45,25 @@ fn is_same_lent(
 
 const ROWS: &[&[&str]] = &[&["a", "a", "a"], &["0123456789"], &["a", "01234567"]];
 
-fn is_lent(alloc: Global) -> Result<bool, LayoutError> {
-    by_default(alloc, records_of(alloc, 3, ROWS)?, is_same_lent)
-}
-
 #[test]
-fn lent_records(rt: HostRuntime) {
-    assert!(rt; is_lent(rt.alloc()) == Ok(true));
-}
-
-fn estimated_width(alloc: Global) -> Result<usize, LayoutError> {
-    by_default(alloc, records_of(alloc, 3, ROWS)?, width_by_estimate)
+fn lent_records(rt: HostRuntime) -> Result<(), Fail> {
+    let records = records_of(rt.alloc(), 3, ROWS)?;
+    let config = SpannedConfig::new(rt.alloc());
+    let is_same = is_same_lent(rt.alloc(), records, &config);
+    drop(config);
+    assert!(rt; is_same == Ok(true));
+    Ok(())
 }
 
 // The columns are as wide as their longest texts: 10, 8 and 1.
 #[test]
-fn width_of_estimated(rt: HostRuntime) {
-    assert!(rt; estimated_width(rt.alloc()) == Ok(19));
+fn width_of_estimated(rt: HostRuntime) -> Result<(), Fail> {
+    let records = records_of(rt.alloc(), 3, ROWS)?;
+    let config = SpannedConfig::new(rt.alloc());
+    let width = width_by_estimate(rt.alloc(), records, &config);
+    drop(config);
+    assert!(rt; width == Ok(19));
+    Ok(())
 }
 
 /// Whether a dimension equals its clone, and no new one, once it has sizes.
@@ -92,13 +79,14 @@ fn is_cloned(
     Ok(is_new && copy == dimension && copy != IterGridDimension::new(alloc))
 }
 
-fn are_clones(alloc: Global) -> Result<bool, LayoutError> {
-    by_default(alloc, records_of(alloc, 1, &[&["ab"]])?, is_cloned)
-}
-
 #[test]
-fn clones(rt: HostRuntime) {
-    assert!(rt; are_clones(rt.alloc()) == Ok(true));
+fn clones(rt: HostRuntime) -> Result<(), Fail> {
+    let records = records_of(rt.alloc(), 1, &[&["ab"]])?;
+    let config = SpannedConfig::new(rt.alloc());
+    let are_clones = is_cloned(rt.alloc(), records, &config);
+    drop(config);
+    assert!(rt; are_clones == Ok(true));
+    Ok(())
 }
 
 /// Estimates records by the default configuration.

@@ -31,7 +31,7 @@ visit_rows-requires c =
     )
 
 -- at the start of the walk
-begun : (c : goal.After-drop-tiling-4) (table : TableView) → table.grid ≡ spanned_grid c.args.config.now → table.shape ≡ c.args.shape →
+begun : (c : goal.After-drop-tiling) (table : TableView) → table.grid ≡ spanned_grid c.args.config.now → table.shape ≡ c.args.shape →
     HasTiled table 0 0 record { sweep = c.in_ok-sweep.sweep; until = c.in_ok-until.until }
 begun c table same shape =
     let wide : table.shape.1 ≡ c.args.shape.1 = ap (λ s. s.1) shape in

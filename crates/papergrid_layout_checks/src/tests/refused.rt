@@ -1,20 +1,15 @@
-//! Calls that allocate. Where no request is refused, each test passes. Where one is refused to a
-//! call that a test is about, the test ends with `refused` and the number of the call, once what
-//! the call changes equals its clone of before. Where one is refused to what is made for a call, it
-//! ends with `AllocError`. `tests/refuse-each` refuses each request of each test, and sees that
-//! each call was refused something.
+//! Calls that allocate and that `tests/refused-calls.txt` does not tell. Where no request is refused, each test passes.
+//! Where one is refused to a call that a test is about, the test ends with `refused` and the number of the call, once
+//! what the call changes equals its clone of before. Where one is refused to what is made for a call, it ends with
+//! `AllocError`. `tests/refuse-each` refuses each request of each test, and sees that each call was refused something.
 
 mod colors;
-mod configurations;
-mod maps;
+mod estimates;
+mod map_calls;
+mod records;
 mod settings;
-mod sizes;
-mod tables;
-mod texts;
 
-ghost use Rattle.std.specs.Prelude.{◌≡◌};
-
-use papergrid_values::{ANSIBuf, Position};
+use papergrid_values::ANSIBuf;
 use std::alloc::{AllocError, Global};
 use std::process::Abort;
 use std::test::Fail;
@@ -75,12 +70,6 @@ fn clones<T: Clone + PartialEq + Drop>(
     let (value, before) = with_clone(made)?;
     let copy: Result<T, AllocError> = value.clone();
     keeps(rt, call, value, before, copy)
-}
-
-fn at(row: usize, col: usize) -> Position
-    ensures { result ≡ record { row = row; col = col } }
-{
-    Position::new(row, col)
 }
 
 fn color(alloc: Global) -> Result<ANSIBuf, AllocError> {

@@ -1,41 +1,10 @@
-//! Values by entity.
+//! Calls of a map by entity, made at once.
 
-use super::{CallNumber, call, clones, keeps, only, says, with_clone};
+use super::{keeps, only, says};
 use papergrid_maps::{EntityMap, MapCall, Stopped};
 use papergrid_values::Entity;
 use std::alloc::{AllocError, Global};
-use std::process::Abort;
 use std::test::Fail;
-
-fn three_rows(alloc: Global) -> Result<EntityMap<char>, AllocError> {
-    let mut map = EntityMap::new(alloc, 'g');
-    for row in [0, 4, 9] {
-        map.insert(Entity::Row(row), 'r')?;
-    }
-    map.insert(Entity::Column(7), 'c')?;
-    Ok(map)
-}
-
-/// What a test ends with that sets one more value.
-fn inserts(rt: &(impl Abort + AllocGlobal), call: CallNumber, entity: Entity) -> Result<(), Fail> {
-    let (mut map, before) = with_clone(three_rows(rt.alloc()))?;
-    let answer = map.insert(entity, 'n');
-    keeps(rt, call, map, before, answer)
-}
-
-#[test]
-fn insert(rt: HostRuntime) -> Result<(), Fail> {
-    inserts(&rt, call(1, 2), Entity::Column(1))?;
-    inserts(&rt, call(2, 2), Entity::Row(1))
-}
-
-#[test]
-fn reads(rt: HostRuntime) -> Result<(), Fail> {
-    let map = three_rows(rt.alloc())?;
-    says(call(1, 3), map.held_cells())?;
-    says(call(2, 3), map.into_map())?;
-    clones(&rt, call(3, 3), three_rows(rt.alloc()))
-}
 
 fn ten_calls(alloc: Global) -> Result<Vec<MapCall<char>>, AllocError> {
     Ok(vec![in alloc;

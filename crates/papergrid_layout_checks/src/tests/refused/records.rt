@@ -1,0 +1,28 @@
+//! Clones of records that own their rows.
+
+use super::{call, clones, says};
+use papergrid_text::{IterRecords, RowIter, VecRecords};
+use std::alloc::{AllocError, Global};
+use std::test::Fail;
+
+fn rows(alloc: Global) -> Result<Vec<Vec<String>>, AllocError> {
+    let first = vec![in alloc;
+        String::from_str(alloc, "a")?,
+        String::from_str(alloc, "b")?,
+    ]?;
+    let second = vec![in alloc; String::from_str(alloc, "c")?]?;
+    Ok(vec![in alloc; first, second]?)
+}
+
+#[test]
+fn records(rt: HostRuntime) -> Result<(), Fail> {
+    let alloc = rt.alloc();
+    clones(&rt, call(1, 3), Ok(VecRecords::new(rows(alloc)?)))?;
+    clones(
+        &rt,
+        call(2, 3),
+        Ok(IterRecords::new(rows(alloc)?, 2, Some(2))),
+    )?;
+    let walked = RowIter::new(rows(alloc)?.into_iter());
+    says(call(3, 3), walked.clone())
+}
