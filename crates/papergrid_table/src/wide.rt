@@ -65,6 +65,14 @@ pub fn no_cut_fits(
     )
 }
 
+/// A text that was read by a request, and its rows.
+#[derive(Clone, Copy)]
+struct Read<'a, 't> {
+    request: &'a Request,
+    input: &'a [u8],
+    rows: &'a Rows<'t>,
+}
+
 /// Adds the widest of the cells, and what the others and the lines take.
 fn name_cells(
     alloc: Global,
@@ -77,15 +85,41 @@ fn name_cells(
     let Some(rows) = shown_rows(alloc, &texts, request, input)? else {
         return Ok(());
     };
-    let mut cells = Vec::with_capacity(alloc, witness.len())?;
-    for position in witness {
-        cells.push(asked_of(request, &rows, *position))?;
+    let read = Read {
+        request,
+        input,
+        rows: &rows,
+    };
+    let cells = widest_first(alloc, read, witness)?;
+    name_widest(alloc, text, read, &cells, width)
+}
+
+/// What the cells ask for, the widest first.
+fn widest_first(
+    alloc: Global,
+    read: Read<'_, '_>,
+    cells: &[Position],
+) -> Result<Vec<Asking>, AllocError> {
+    let mut asking = Vec::with_capacity(alloc, cells.len())?;
+    for position in cells {
+        asking.push(asked_of(read.request, read.rows, *position))?;
     }
-    cells.sort_by_key(|cell| usize::MAX.saturating_sub(cell.width))?;
+    asking.sort_by_key(|cell| usize::MAX.saturating_sub(cell.width))?;
+    Ok(asking)
+}
+
+/// Adds the first of the cells, and what is left of the width of the table.
+fn name_widest(
+    alloc: Global,
+    text: &mut String,
+    read: Read<'_, '_>,
+    cells: &[Asking],
+    width: usize,
+) -> Result<(), AllocError> {
     let mut rest = width;
     let mut is_first = true;
     for cell in cells.iter().take(NAMED) {
-        let (head, line) = cell_name(alloc, request, &rows, input, cell.position)?;
+        let (head, line) = cell_name(alloc, read, cell.position)?;
         text.push_str(if is_first { ": " } else { ", " })?;
         add_cell(text, head.as_str(), line, cell.width)?;
         rest = rest.saturating_sub(cell.width);
@@ -119,14 +153,12 @@ fn asked_of(request: &Request, rows: &Rows<'_>, position: Position) -> Asking {
 /// The head of the column of a cell, or its number, and the line of its record.
 fn cell_name(
     alloc: Global,
-    request: &Request,
-    rows: &Rows<'_>,
-    input: &[u8],
+    read: Read<'_, '_>,
     position: Position,
 ) -> Result<(String, usize), AllocError> {
-    let line = line_of_record(alloc, request.reading, input, position.row)?;
-    let head = match text_at(rows, Position::new(0, position.col)) {
-        Some(head) if request.has_head && !head.is_empty() => shown(alloc, head)?,
+    let line = line_of_record(alloc, read.request.reading, read.input, position.row)?;
+    let head = match text_at(read.rows, Position::new(0, position.col)) {
+        Some(head) if read.request.has_head && !head.is_empty() => shown(alloc, head)?,
         _ => {
             let column = position.col;
             format!(in alloc; "column {column}")?
