@@ -16,7 +16,6 @@ use std::marker::Model;
 /// has cells. It also keeps what was found of it, until a setting or a text is told, and the picture that was drawn last.
 ///
 /// A call that is refused changes nothing.
-#[derive(Debug)]
 pub struct Builder {
     settings: Vec<Setting>,
     cells: CellTexts,

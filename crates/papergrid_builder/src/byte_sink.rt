@@ -7,7 +7,7 @@ use std::alloc::Global;
 
 /// A sink that keeps all its bytes. A write fails where memory is refused.
 // That of `papergrid_draw` over a vector does not hand the vector back.
-#[derive(Debug, Drop)]
+#[derive(Drop)]
 pub struct ByteSink {
     pub bytes: Vec<u8>,
     pub failed: bool,

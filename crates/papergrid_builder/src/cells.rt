@@ -6,7 +6,6 @@ use std::alloc::{AllocError, Global};
 use std::marker::Model;
 
 /// The texts of many cells, one behind another in one text, which is not cut anew for each of them.
-#[derive(Debug)]
 pub struct CellTexts {
     text: String,
     /// Where each cell begins in it, and where it ends.

@@ -22,7 +22,6 @@ use papergrid_values::Position;
 use std::alloc::{AllocError, Global};
 
 /// A configuration with the sizes that were found by it, and what certifies these.
-#[derive(Debug)]
 pub struct Found {
     pub config: SpannedConfig,
     pub certified: Certified,

@@ -8,7 +8,7 @@ use papergrid_values::Position;
 
 /// What a setting is for: the whole table (0), a column (1), a row (2), or a cell (3).
 #[repr(C)]
-#[derive(Clone, Copy, Debug, PartialEq, Eq)]
+#[derive(Clone, Copy)]
 pub struct PapergridEntity {
     pub kind: u32,
     pub row: usize,
@@ -17,7 +17,7 @@ pub struct PapergridEntity {
 
 /// A row and a column, counted from 0.
 #[repr(C)]
-#[derive(Clone, Copy, Debug, PartialEq, Eq)]
+#[derive(Clone, Copy)]
 pub struct PapergridPosition {
     pub row: usize,
     pub column: usize,
@@ -36,7 +36,7 @@ impl PapergridPosition {
 
 /// Where a cell stands: its first column of the terminal and its first line, counted from 0, and over how many of them it goes.
 #[repr(C)]
-#[derive(Clone, Copy, Debug, PartialEq, Eq)]
+#[derive(Clone, Copy)]
 pub struct PapergridPlace {
     pub left: usize,
     pub top: usize,

@@ -1,6 +1,6 @@
 //! A configuration from a compact one. Source: `config/spanned/mod.rs`.
 
-ghost use Rattle.std.specs.Prelude.{◌≡◌, IfOk, OnOk, option_map};
+ghost use Rattle.std.specs.Prelude.{◌≡◌, false, IfOk, option_map};
 ghost use Rattle.papergrid_values.specs.Colors.{texts_of};
 ghost use Rattle.papergrid_config.specs.Made.{colored_frame, colored_sides, compact_settings};
 ghost use Rattle.papergrid_config.specs.History.{HasSettingHistory};
@@ -30,29 +30,26 @@ impl SpannedConfig {
     }
 }
 
-// Copies of the colours of four sides.
+// Copies of the colours of four sides. As with a frame, the copies have one way out where memory
+// lacks, and not one for each part.
 fn owned_sides(
     alloc: Global,
     colors: &Sides<ANSIStr<'static>>,
 ) -> Result<Sides<Option<ANSIBuf>>, AllocError>
     ensures { IfOk result (λ sides. sides ≡ colored_sides colors.now) }
 {
-    let mut sides = Sides::new(None, None, None, None);
-    copy_sides(alloc, colors, &mut sides)?;
+    let mut is_refused = false;
+    let sides = Sides {
+        top: copy_part(alloc, Some(colors.top), &mut is_refused),
+        bottom: copy_part(alloc, Some(colors.bottom), &mut is_refused),
+        left: copy_part(alloc, Some(colors.left), &mut is_refused),
+        right: copy_part(alloc, Some(colors.right), &mut is_refused),
+    };
+    if is_refused {
+        drop(sides);
+        return Err(AllocError);
+    }
     Ok(sides)
-}
-
-fn copy_sides(
-    alloc: Global,
-    colors: &Sides<ANSIStr<'static>>,
-    sides: &mut Sides<Option<ANSIBuf>>,
-) -> Result<(), AllocError>
-    ensures { OnOk result (sides.new ≡ colored_sides colors.now) }
-{
-    copy_part(alloc, &Some(colors.top), &mut sides.top)?;
-    copy_part(alloc, &Some(colors.bottom), &mut sides.bottom)?;
-    copy_part(alloc, &Some(colors.left), &mut sides.left)?;
-    copy_part(alloc, &Some(colors.right), &mut sides.right)
 }
 
 // Copies of the colours of a frame.
@@ -62,59 +59,41 @@ fn owned_frame(
 ) -> Result<Borders<ANSIBuf>, AllocError>
     ensures { IfOk result (λ frame. frame ≡ colored_frame colors.now) }
 {
-    let mut frame = Borders::empty();
-    copy_frame(alloc, colors, &mut frame)?;
+    let mut is_refused = false;
+    let frame = Borders {
+        top: copy_part(alloc, colors.top, &mut is_refused),
+        top_left: copy_part(alloc, colors.top_left, &mut is_refused),
+        top_right: copy_part(alloc, colors.top_right, &mut is_refused),
+        top_intersection: copy_part(alloc, colors.top_intersection, &mut is_refused),
+        bottom: copy_part(alloc, colors.bottom, &mut is_refused),
+        bottom_left: copy_part(alloc, colors.bottom_left, &mut is_refused),
+        bottom_right: copy_part(alloc, colors.bottom_right, &mut is_refused),
+        bottom_intersection: copy_part(alloc, colors.bottom_intersection, &mut is_refused),
+        horizontal: copy_part(alloc, colors.horizontal, &mut is_refused),
+        vertical: copy_part(alloc, colors.vertical, &mut is_refused),
+        intersection: copy_part(alloc, colors.intersection, &mut is_refused),
+        left: copy_part(alloc, colors.left, &mut is_refused),
+        left_intersection: copy_part(alloc, colors.left_intersection, &mut is_refused),
+        right: copy_part(alloc, colors.right, &mut is_refused),
+        right_intersection: copy_part(alloc, colors.right_intersection, &mut is_refused),
+    };
+    if is_refused {
+        drop(frame);
+        return Err(AllocError);
+    }
     Ok(frame)
 }
 
-fn copy_frame(
-    alloc: Global,
-    colors: &Borders<ANSIStr<'static>>,
-    frame: &mut Borders<ANSIBuf>,
-) -> Result<(), AllocError>
-    ensures { OnOk result (frame.new ≡ colored_frame colors.now) }
-{
-    copy_part(alloc, &colors.top, &mut frame.top)?;
-    copy_part(alloc, &colors.top_left, &mut frame.top_left)?;
-    copy_part(alloc, &colors.top_right, &mut frame.top_right)?;
-    copy_part(alloc, &colors.top_intersection, &mut frame.top_intersection)?;
-    copy_part(alloc, &colors.bottom, &mut frame.bottom)?;
-    copy_part(alloc, &colors.bottom_left, &mut frame.bottom_left)?;
-    copy_part(alloc, &colors.bottom_right, &mut frame.bottom_right)?;
-    copy_part(
-        alloc,
-        &colors.bottom_intersection,
-        &mut frame.bottom_intersection,
-    )?;
-    copy_part(alloc, &colors.horizontal, &mut frame.horizontal)?;
-    copy_part(alloc, &colors.vertical, &mut frame.vertical)?;
-    copy_part(alloc, &colors.intersection, &mut frame.intersection)?;
-    copy_part(alloc, &colors.left, &mut frame.left)?;
-    copy_part(
-        alloc,
-        &colors.left_intersection,
-        &mut frame.left_intersection,
-    )?;
-    copy_part(alloc, &colors.right, &mut frame.right)?;
-    copy_part(
-        alloc,
-        &colors.right_intersection,
-        &mut frame.right_intersection,
-    )?;
-    Ok(())
-}
-
-// A copy of a part that is set.
+// A copy of a part that is set. Out of memory it is none, and that is noted.
 fn copy_part(
     alloc: Global,
-    color: &Option<ANSIStr<'static>>,
-    part: &mut Option<ANSIBuf>,
-) -> Result<(), AllocError>
-    ensures { OnOk result (part.new ≡ option_map texts_of color.now) }
+    color: Option<ANSIStr<'static>>,
+    is_refused: &mut bool,
+) -> Option<ANSIBuf>
+    ensures { is_refused.new ≡ false →
+        (is_refused.old ≡ false) × (result ≡ option_map texts_of color.entry) }
 {
-    *part = match color {
-        Some(color) => Some(ANSIBuf::copy_of(alloc, *color)?),
-        None => None,
-    };
-    Ok(())
+    let copy = ANSIBuf::copy_of(alloc, color?);
+    *is_refused |= copy.is_err();
+    copy.ok()
 }

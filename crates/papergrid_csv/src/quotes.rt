@@ -11,7 +11,7 @@ use crate::reading::{Format, Reading};
 use papergrid_text::search::find_byte;
 
 /// Where a byte of a text stands.
-#[derive(Clone, Copy, Debug, PartialEq, Eq)]
+#[derive(Clone, Copy, PartialEq, Eq)]
 enum Place {
     /// At the start of a field.
     Start,

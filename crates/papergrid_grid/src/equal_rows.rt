@@ -31,7 +31,7 @@ fn first_std_line(text: &str) -> &str
 }
 
 /// Rows of texts as cells of one line each: the first one of each text.
-#[derive(Clone, Copy, Debug)]
+#[derive(Drop)]
 pub struct LineCells<'a, R, C> {
     pub alloc: Global,
     /// The rows.
@@ -74,7 +74,7 @@ where
 }
 
 /// The widths of a dimension, and one height for all rows.
-#[derive(Clone, Copy, Debug)]
+#[derive(Drop)]
 pub struct EqualRows<'a, D> {
     pub dimension: &'a D,
     pub height: usize,

@@ -28,7 +28,7 @@ impl From<AllocError> for DocumentError {
 }
 
 /// The same, while the document is read.
-#[derive(Clone, Copy, Debug)]
+#[derive(Clone, Copy)]
 pub enum Fault<'v> {
     Unexpected(Place<'v>, &'static str),
     UnknownSetting(usize, &'v str),

@@ -3,7 +3,7 @@
 use std::fmt;
 
 /// A place in a document: the path to it, as far as it goes.
-#[derive(Clone, Copy, Debug)]
+#[derive(Clone, Copy)]
 pub struct Place<'v> {
     /// A member of the document, or the document itself.
     member: &'static str,

@@ -14,7 +14,7 @@ use papergrid_walk::{Measure, gather};
 use std::alloc::Global;
 
 /// Settings along one direction of a table with so many tracks.
-#[derive(Clone, Copy)]
+#[derive(Drop)]
 pub struct Along<'a, S> {
     pub settings: &'a S,
     pub direction: Direction,

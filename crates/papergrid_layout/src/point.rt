@@ -15,7 +15,7 @@ use papergrid_values::{Direction, Position};
 
 /// A table of the shape (rows, columns), a column of the terminal in a line of it, and a position that lies in
 /// the rectangle of each cell that stands over these.
-#[derive(Clone, Copy)]
+#[derive(Drop)]
 struct Point<'a, D> {
     dimension: &'a D,
     config: &'a SpannedConfig,

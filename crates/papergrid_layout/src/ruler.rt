@@ -16,7 +16,7 @@ use std::alloc::{AllocError, Global};
 
 /// The sizes of a dimension, and the spans and the lines of settings, along a direction in which
 /// the table has so many tracks.
-#[derive(Clone, Copy)]
+#[derive(Drop)]
 pub struct Ruler<'a, D, S> {
     pub dimension: &'a D,
     pub settings: &'a S,

@@ -4,7 +4,7 @@ use std::io;
 use std::io::{ErrorKind, Write};
 
 /// A writer over another one, which notes that the pipe behind it is closed.
-#[derive(Debug, Drop)]
+#[derive(Drop)]
 pub struct Output<W> {
     writer: W,
     is_closed: bool,

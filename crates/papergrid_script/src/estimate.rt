@@ -18,7 +18,7 @@ use std::convert::AsStr;
 /// The sizes of a table and the cells that certify them, and the totals with the lines of the table: the width in columns of
 /// a terminal, the height in lines. None certify a direction where sizes are by shares and two longer ranges are neither
 /// nested nor disjoint.
-#[derive(Debug, Drop)]
+#[derive(Drop)]
 pub struct Sizes {
     pub certified: Certified,
     pub total_width: usize,

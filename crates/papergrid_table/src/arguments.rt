@@ -66,7 +66,7 @@ impl From<AllocError> for Misuse {
 }
 
 /// What an input is.
-#[derive(Clone, Copy, Debug, PartialEq, Eq)]
+#[derive(Clone, Copy)]
 pub enum Kind {
     Csv,
     Tsv,
@@ -188,7 +188,7 @@ impl Draft {
         }
         if self.takes_options {
             if let Some((option, value)) = option_of(word.as_str()) {
-                if option.choice != Choice::Help && option.choice != Choice::Version {
+                if !matches!(option.choice, Choice::Help | Choice::Version) {
                     return self.begin(option, value);
                 }
             }
@@ -351,7 +351,7 @@ fn tell_format(
     of_fields: Option<&'static str>,
 ) -> Result<(), Misuse> {
     wanted.request.reading.format = format_of(alloc, wanted.kind, delimiter, of_fields)?;
-    if wanted.witness && wanted.kind == Kind::Json {
+    if wanted.witness && matches!(wanted.kind, Kind::Json) {
         let text = "--witness: not for JSON, and the input is JSON";
         return Err(said(String::from_str(alloc, text)));
     }

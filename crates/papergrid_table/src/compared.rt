@@ -5,7 +5,7 @@ use std::io;
 use std::io::Write;
 
 /// A writer that compares what it is given with a picture.
-#[derive(Debug, Drop)]
+#[derive(Drop)]
 pub struct Compared<'p> {
     picture: &'p [u8],
     /// How many bytes at its front were the same.

@@ -9,7 +9,7 @@ use papergrid_program::{name_like, quoted};
 use std::alloc::{AllocError, Global};
 
 /// How the run of a document ended that read its whole input.
-#[derive(Clone, Copy, Debug, PartialEq, Eq)]
+#[derive(Clone, Copy)]
 pub enum DocumentEnd {
     Drawn,
     /// Its table has no picture.

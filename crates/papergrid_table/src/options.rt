@@ -3,7 +3,7 @@
 use crate::styles::STYLES;
 
 /// What an option is about.
-#[derive(Clone, Copy, Debug, PartialEq, Eq)]
+#[derive(Clone, Copy)]
 pub enum Choice {
     Csv,
     Tsv,

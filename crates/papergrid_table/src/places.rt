@@ -5,14 +5,14 @@ use papergrid_csv::{Format, Reading};
 use std::alloc::{AllocError, Global};
 
 /// A line of a text and a byte of it, both counted from 1.
-#[derive(Clone, Copy, Debug, PartialEq, Eq)]
+#[derive(Clone, Copy)]
 pub struct Spot {
     pub line: usize,
     pub byte: usize,
 }
 
 /// A record of a text.
-#[derive(Clone, Copy, Debug, PartialEq, Eq)]
+#[derive(Clone, Copy)]
 pub struct Found {
     /// The line of its first byte, counted from 1.
     pub line: usize,
@@ -121,7 +121,7 @@ fn found_at(text: &[u8], record: &ByteRecord) -> Found {
 }
 
 /// What a text is in the midst of, by its bytes.
-#[derive(Clone, Copy, Debug, PartialEq, Eq)]
+#[derive(Clone, Copy)]
 enum Amid {
     /// Before a field.
     Start,
@@ -142,12 +142,12 @@ pub fn unclosed_line(delimiter: u8, text: &[u8]) -> Option<usize> {
     let mut opened = 0;
     for (at, byte) in text.iter().enumerate() {
         let next = after_byte(amid, delimiter, *byte);
-        if amid == Amid::Start && next == Amid::Quoted {
+        if matches!((amid, next), (Amid::Start, Amid::Quoted)) {
             opened = at;
         }
         amid = next;
     }
-    if amid == Amid::Quoted {
+    if matches!(amid, Amid::Quoted) {
         return Some(line_after(text, opened));
     }
     None

@@ -22,7 +22,7 @@ const UNTILED: &str = "spans overlap there, or leave the position to no visible 
 const PIECE: usize = 65536;
 
 /// How a run ended, of a text, of a script or of a document.
-#[derive(Clone, Copy, Debug, PartialEq, Eq)]
+#[derive(Clone, Copy)]
 enum End {
     OfText(CsvEnd),
     OfScript(RunEnd),

@@ -14,7 +14,6 @@ use std::alloc::{AllocError, Global};
 /// first of greatest minimum size, and the rest as they came. A minimum size above the greatest
 /// `usize` is kept as that one, and is remembered: cells that overflow the table are looked for
 /// before it counts.
-#[derive(Debug)]
 pub struct Demands {
     /// By their numbers. Where no cell has a minimum size, a cell stands of minimum size 0.
     pub single_span: Vec<Demand>,

@@ -1,15 +1,16 @@
 //! The border of a cell. Source: `config/border.rs`.
 
 ghost use Rattle.std.specs.Prelude.{◌≡◌, ◌↔◌, ◌∷◌, [], Some, None, true, IsTrue, IsOk, IfOk};
-ghost use Rattle.std.specs.List.{AllPairs};
+ghost use Rattle.std.specs.List.{AllPairs, AllZip};
 ghost use Rattle.std.specs.Option.{option_eq};
 ghost use Rattle.papergrid_values.specs.Parts.{any_set, none_set, EachSet, PartsGive};
 ghost use Rattle.papergrid_values.specs.Borders.{border_parts, border_with, border_map};
 
+use crate::parts::{clone_part, cloned_part};
 use std::alloc::AllocError;
 
 /// The four edges and four corners of a cell, each of which is set or not.
-#[derive(Clone, Copy, Debug, Default, PartialEq, Eq, PartialOrd, Ord, Hash, Drop)]
+#[derive(Copy, Debug, Default, PartialEq, Eq, PartialOrd, Ord, Hash, Drop)]
 pub struct Border<T> {
     pub top: Option<T>,
     pub bottom: Option<T>,
@@ -203,6 +204,33 @@ impl<T> Border<T> {
     }
 }
 
+// By hand: docs/DECISIONS.md, "Clones".
+impl<T: Clone> Clone for Border<T> {
+    ghost is_clone = { λ x y.
+        AllZip ⟦<Option<T> as Clone>⟧.is_clone (border_parts x) (border_parts y) };
+
+    ghost is_infallible = { λ x. EachSet T.is_infallible (border_parts x) };
+
+    fn clone(&self) -> Result<Border<T>, AllocError> {
+        let mut is_refused = false;
+        let copy = Border {
+            top: clone_part(&self.top, &mut is_refused),
+            bottom: clone_part(&self.bottom, &mut is_refused),
+            left: clone_part(&self.left, &mut is_refused),
+            right: clone_part(&self.right, &mut is_refused),
+            left_top_corner: clone_part(&self.left_top_corner, &mut is_refused),
+            left_bottom_corner: clone_part(&self.left_bottom_corner, &mut is_refused),
+            right_top_corner: clone_part(&self.right_top_corner, &mut is_refused),
+            right_bottom_corner: clone_part(&self.right_bottom_corner, &mut is_refused),
+        };
+        if is_refused {
+            drop(copy);
+            return Err(AllocError);
+        }
+        Ok(copy)
+    }
+}
+
 impl<T> Border<&T> {
     /// The border with a copy of each part that is lent.
     pub fn copied(&self) -> Border<T>
@@ -235,15 +263,21 @@ impl<T> Border<&T> {
         ensures succeeds { EachSet (λ part. T.is_infallible part.now) (border_parts self.now) →
             IsOk result }
     {
-        Ok(Border {
-            top: self.top.cloned()?,
-            bottom: self.bottom.cloned()?,
-            left: self.left.cloned()?,
-            right: self.right.cloned()?,
-            left_top_corner: self.left_top_corner.cloned()?,
-            left_bottom_corner: self.left_bottom_corner.cloned()?,
-            right_top_corner: self.right_top_corner.cloned()?,
-            right_bottom_corner: self.right_bottom_corner.cloned()?,
-        })
+        let mut is_refused = false;
+        let copy = Border {
+            top: cloned_part(self.top, &mut is_refused),
+            bottom: cloned_part(self.bottom, &mut is_refused),
+            left: cloned_part(self.left, &mut is_refused),
+            right: cloned_part(self.right, &mut is_refused),
+            left_top_corner: cloned_part(self.left_top_corner, &mut is_refused),
+            left_bottom_corner: cloned_part(self.left_bottom_corner, &mut is_refused),
+            right_top_corner: cloned_part(self.right_top_corner, &mut is_refused),
+            right_bottom_corner: cloned_part(self.right_bottom_corner, &mut is_refused),
+        };
+        if is_refused {
+            drop(copy);
+            return Err(AllocError);
+        }
+        Ok(copy)
     }
 }

@@ -1,12 +1,16 @@
 //! The frame of a table. Source: `config/borders.rs`.
 
 ghost use Rattle.std.specs.Prelude.{◌≡◌, Some, None};
+ghost use Rattle.std.specs.List.{AllZip};
 ghost use Rattle.papergrid_values.specs.Parts.{none_set, EachSet, PartsGive};
 ghost use Rattle.papergrid_values.specs.Borders as frame;
 
+use crate::parts::clone_part;
+use std::alloc::AllocError;
+
 /// The parts of a table's frame, each of which is set or not: its edges and corners, the lines
 /// inside, and where they cross each other and the edges.
-#[derive(Clone, Copy, Debug, Default, PartialEq, Eq, PartialOrd, Ord, Hash, Drop)]
+#[derive(Copy, Debug, Default, PartialEq, Eq, PartialOrd, Ord, Hash, Drop)]
 pub struct Borders<T> {
     pub top: Option<T>,
     pub top_left: Option<T>,
@@ -191,5 +195,39 @@ impl<T> Borders<T> {
             right: self.right.map(&f),
             right_intersection: self.right_intersection.map(&f),
         }
+    }
+}
+
+// By hand: docs/DECISIONS.md, "Clones".
+impl<T: Clone> Clone for Borders<T> {
+    ghost is_clone = { λ x y.
+        AllZip ⟦<Option<T> as Clone>⟧.is_clone (frame.frame_parts x) (frame.frame_parts y) };
+
+    ghost is_infallible = { λ x. EachSet T.is_infallible (frame.frame_parts x) };
+
+    fn clone(&self) -> Result<Borders<T>, AllocError> {
+        let mut is_refused = false;
+        let copy = Borders {
+            top: clone_part(&self.top, &mut is_refused),
+            top_left: clone_part(&self.top_left, &mut is_refused),
+            top_right: clone_part(&self.top_right, &mut is_refused),
+            top_intersection: clone_part(&self.top_intersection, &mut is_refused),
+            bottom: clone_part(&self.bottom, &mut is_refused),
+            bottom_left: clone_part(&self.bottom_left, &mut is_refused),
+            bottom_right: clone_part(&self.bottom_right, &mut is_refused),
+            bottom_intersection: clone_part(&self.bottom_intersection, &mut is_refused),
+            horizontal: clone_part(&self.horizontal, &mut is_refused),
+            vertical: clone_part(&self.vertical, &mut is_refused),
+            intersection: clone_part(&self.intersection, &mut is_refused),
+            left: clone_part(&self.left, &mut is_refused),
+            left_intersection: clone_part(&self.left_intersection, &mut is_refused),
+            right: clone_part(&self.right, &mut is_refused),
+            right_intersection: clone_part(&self.right_intersection, &mut is_refused),
+        };
+        if is_refused {
+            drop(copy);
+            return Err(AllocError);
+        }
+        Ok(copy)
     }
 }

@@ -18,6 +18,7 @@ pub mod horizontal_line;
 pub mod indent;
 pub mod laws;
 pub mod offset;
+mod parts;
 pub mod per_direction;
 pub mod position;
 pub mod sides;

@@ -8,7 +8,7 @@ use std::alloc::{AllocError, Global};
 
 /// The first level has an end for each column, the next one for each two columns, and so on. The
 /// end of a column is the greatest of those that the levels have over it.
-#[derive(Debug, Drop)]
+#[derive(Drop)]
 pub enum MaxTree {
     Top,
     Level(Vec<usize>, Box<MaxTree>),

@@ -16,7 +16,6 @@ use std::alloc::{AllocError, Global};
 use std::marker::Model;
 
 /// The anchors in order, and how far a walk over so many columns has come among them.
-#[derive(Debug)]
 pub struct Sweep {
     anchors: Vec<Anchor>,
     next: usize,

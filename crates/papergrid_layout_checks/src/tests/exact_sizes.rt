@@ -18,6 +18,15 @@ fn row_of(alloc: Global, texts: &[&str]) -> Result<Vec<String>, AllocError> {
     Ok(row)
 }
 
+/// Rows that own their texts.
+pub fn rows_of(alloc: Global, rows: &[&[&str]]) -> Result<Vec<Vec<String>>, AllocError> {
+    let mut held = Vec::new(alloc);
+    for texts in rows {
+        held.push(row_of(alloc, *texts)?)?;
+    }
+    Ok(held)
+}
+
 /// Records of rows of so many columns.
 fn records_of(
     alloc: Global,
@@ -26,11 +35,7 @@ fn records_of(
 ) -> Result<VecRecords<String>, AllocError>
     ensures { IfOk result (λ records. column_count records ≡ columns) }
 {
-    let mut held = Vec::new(alloc);
-    for texts in rows {
-        held.push(row_of(alloc, *texts)?)?;
-    }
-    Ok(VecRecords::with_size(held, 0, columns))
+    Ok(VecRecords::with_size(rows_of(alloc, rows)?, 0, columns))
 }
 
 /// Whether the widths are the same, lent and by value.
@@ -69,7 +74,7 @@ fn width_of_estimated(rt: HostRuntime) -> Result<(), Fail> {
 /// Whether a dimension equals its clone, and no new one, once it has sizes.
 fn is_cloned(
     alloc: Global,
-    records: VecRecords<String>,
+    records: &VecRecords<String>,
     config: &SpannedConfig,
 ) -> Result<bool, LayoutError> {
     let mut dimension = IterGridDimension::new(alloc);
@@ -83,7 +88,7 @@ fn is_cloned(
 fn clones(rt: HostRuntime) -> Result<(), Fail> {
     let records = records_of(rt.alloc(), 1, &[&["ab"]])?;
     let config = SpannedConfig::new(rt.alloc());
-    let are_clones = is_cloned(rt.alloc(), records, &config);
+    let are_clones = is_cloned(rt.alloc(), &records, &config);
     drop(config);
     assert!(rt; are_clones == Ok(true));
     Ok(())
@@ -91,10 +96,10 @@ fn clones(rt: HostRuntime) -> Result<(), Fail> {
 
 /// Estimates records by the default configuration.
 fn estimate_compact(
-    records: VecRecords<String>,
+    records: &VecRecords<String>,
     dimension: &mut CompactGridDimension,
 ) -> Result<(), LayoutError>
-    ensures { OnOk result (length dimension.new.widths ≡ column_count records) }
+    ensures { OnOk result (length dimension.new.widths ≡ column_count records.now) }
 {
     let config = CompactConfig::new();
     dimension.estimate(records, &config)
@@ -103,7 +108,7 @@ fn estimate_compact(
 fn is_compact(alloc: Global) -> Result<bool, LayoutError> {
     let records = records_of(alloc, 2, &[&["ab", "c\nde"], &["", "x"]])?;
     let mut dimension = CompactGridDimension::new(alloc);
-    estimate_compact(records, &mut dimension)?;
+    estimate_compact(&records, &mut dimension)?;
     Ok(
         (dimension.get_width(0), dimension.get_width(1)) == (4, 4)
             && (dimension.get_height(0), dimension.get_height(99)) == (1, 1),

@@ -120,17 +120,20 @@ fn widths_of_one_list(rt: HostRuntime) {
 }
 
 // The counts are those that were given, also through references.
+fn has_false_counts(records: &VecRecords<&'static str>) -> bool {
+    records.len() == 1
+        && (records.count_rows(), records.count_columns()) == (5, 9)
+        && ExactRecords::count_rows(&records) == 5
+        && Records::count_columns(&records) == 9
+        && records.hint_count_rows() == Some(5)
+        && Records::hint_count_rows(&records) == Some(5)
+}
+
 fn are_false_counts(alloc: Global) -> Result<bool, AllocError> {
-    let records = VecRecords::with_size(vec![in alloc; vec![in alloc; "a"]?]?, 5, 9);
-    Ok(
-        records.len() == 1
-            && (records.count_rows(), records.count_columns()) == (5, 9)
-            && ExactRecords::count_rows(&&records) == 5
-            && Records::count_columns(&&records) == 9
-            && records.hint_count_rows() == Some(5)
-            && Records::hint_count_rows(&&records) == Some(5)
-            && peek(&records, Position::new(0, 0), 0) == ("a", 1, 1, "a", 1),
-    )
+    let row = vec![in alloc; "a"]?;
+    let records = VecRecords::with_size(vec![in alloc; row]?, 5, 9);
+    let is_read = peek(&records, Position::new(0, 0), 0) == ("a", 1, 1, "a", 1);
+    Ok(is_read & has_false_counts(&records))
 }
 
 #[test]

@@ -79,12 +79,20 @@ fn moved_and_cloned(rt: HostRuntime) {
     assert!(rt; is_moved_and_cloned(rt.alloc()) == Ok(true));
 }
 
+fn is_cloned(text: &Text<&'static str>) -> Result<bool, AllocError> {
+    let copy = text.clone()?;
+    Ok(copy == *text)
+}
+
+fn is_shown(alloc: Global, text: &Text<&'static str>, as_text: &str) -> Result<bool, AllocError> {
+    let shown = format!(in alloc; "{text}")?;
+    Ok(shown.as_str() == as_text)
+}
+
 fn is_exact(alloc: Global) -> Result<bool, AllocError> {
     let exact = Text::exact("ab", 7, Vec::new(alloc));
-    let copy = exact.clone()?;
-    let is_same = copy == exact;
-    let shown = format!(in alloc; "{exact}")?;
-    Ok(is_same && shown.as_str() == "ab" && exact.into_inner() == "ab")
+    let is_same = is_cloned(&exact)? & is_shown(alloc, &exact, "ab")?;
+    Ok(is_same & (exact.into_inner() == "ab"))
 }
 
 #[test]
@@ -111,10 +119,17 @@ fn is_less<T: PartialOrd + Drop>(text: T, other: &T) -> bool {
     text < *other && text != *other
 }
 
+fn is_alike_exact(alloc: Global, text: &Text<String>) -> Result<bool, AllocError> {
+    Ok(are_alike(text, exact(alloc, given_lines(alloc)?)?))
+}
+
+fn is_more_than_none(alloc: Global, text: &Text<String>) -> Result<bool, AllocError> {
+    Ok(is_less(exact(alloc, Vec::new(alloc))?, text))
+}
+
 fn is_new_exact(alloc: Global) -> Result<bool, AllocError> {
     let first = measured(alloc)?;
-    let is_alike = are_alike(&first, exact(alloc, given_lines(alloc)?)?);
-    Ok(is_less(exact(alloc, Vec::new(alloc))?, &first) && is_alike)
+    Ok(is_alike_exact(alloc, &first)? & is_more_than_none(alloc, &first)?)
 }
 
 #[test]

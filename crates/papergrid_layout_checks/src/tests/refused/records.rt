@@ -1,17 +1,13 @@
 //! Clones of records that own their rows.
 
 use super::{call, clones, says};
+use crate::tests::exact_sizes::rows_of;
 use papergrid_text::{IterRecords, RowIter, VecRecords};
 use std::alloc::{AllocError, Global};
 use std::test::Fail;
 
 fn rows(alloc: Global) -> Result<Vec<Vec<String>>, AllocError> {
-    let first = vec![in alloc;
-        String::from_str(alloc, "a")?,
-        String::from_str(alloc, "b")?,
-    ]?;
-    let second = vec![in alloc; String::from_str(alloc, "c")?]?;
-    Ok(vec![in alloc; first, second]?)
+    rows_of(alloc, &[&["a", "b"], &["c"]])
 }
 
 #[test]

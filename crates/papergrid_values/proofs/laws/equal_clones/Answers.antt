@@ -1,4 +1,4 @@
--- A derived clone is made of clones of the parts.
+-- A clone is made of clones of the parts.
 use Rattle.std.proofs.Common.{rules}
 use Rattle.std.specs.contracts.prelude.OptionClone.TheImpl.{by_variants}
 use Rattle.papergrid_values.proofs.CloneLemmas.{cloned_border, cloned_frame}

@@ -4,13 +4,22 @@ use Rattle.papergrid_values.proofs.border.Border+ref+T.cloned.Goals as goal
 
 pub returns-clause-equal : goal.returns-clause-equal
 returns-clause-equal g c = λ same i.
-    let R = g.T.Clone.is_clone in record {
-      top = lent_part R _ _ same c.in_ok-cloned.ensures i;
-      bottom = lent_part R _ _ same c.in_ok-cloned-2.ensures i;
-      left = lent_part R _ _ same c.in_ok-cloned-3.ensures i;
-      right = lent_part R _ _ same c.in_ok-cloned-4.ensures i;
-      left_top_corner = lent_part R _ _ same c.in_ok-cloned-5.ensures i;
-      left_bottom_corner = lent_part R _ _ same c.in_ok-cloned-6.ensures i;
-      right_top_corner = lent_part R _ _ same c.in_ok-cloned-7.ensures i;
-      right_bottom_corner = lent_part R _ _ same c.in_ok-cloned-8.ensures i;
+    let R = g.T.Clone.is_clone in
+    let part_8 = c.cloned_part-8.ensures.clones c.if-is_refused.false in
+    let part_7 = c.cloned_part-7.ensures.clones part_8.0 in
+    let part_6 = c.cloned_part-6.ensures.clones part_7.0 in
+    let part_5 = c.cloned_part-5.ensures.clones part_6.0 in
+    let part_4 = c.cloned_part-4.ensures.clones part_5.0 in
+    let part_3 = c.cloned_part-3.ensures.clones part_4.0 in
+    let part_2 = c.cloned_part-2.ensures.clones part_3.0 in
+    let part_1 = c.cloned_part.ensures.clones part_2.0 in
+    record {
+      top = lent_part R _ _ same part_1.1 i;
+      bottom = lent_part R _ _ same part_2.1 i;
+      left = lent_part R _ _ same part_3.1 i;
+      right = lent_part R _ _ same part_4.1 i;
+      left_top_corner = lent_part R _ _ same part_5.1 i;
+      left_bottom_corner = lent_part R _ _ same part_6.1 i;
+      right_top_corner = lent_part R _ _ same part_7.1 i;
+      right_bottom_corner = lent_part R _ _ same part_8.1 i;
     }

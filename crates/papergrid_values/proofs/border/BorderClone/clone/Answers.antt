@@ -1,0 +1,17 @@
+-- Where each part can be cloned, no clone notes a refusal.
+use Rattle.std.proofs.Common.{◌∙◌, sym}
+use Rattle.std.proofs.lemmas.Bool.{false≢true}
+use Rattle.papergrid_values.proofs.border.BorderClone.clone.Goals as goal
+
+pub returns-then-is_refused : goal.returns-then-is_refused
+returns-then-is_refused g c = record {
+  cases = λ all. false≢true (sym (
+      c.clone_part-8.ensures.succeeds all.1.1.1.1.1.1.1.0
+      ∙ c.clone_part-7.ensures.succeeds all.1.1.1.1.1.1.0
+      ∙ c.clone_part-6.ensures.succeeds all.1.1.1.1.1.0
+      ∙ c.clone_part-5.ensures.succeeds all.1.1.1.1.0
+      ∙ c.clone_part-4.ensures.succeeds all.1.1.1.0
+      ∙ c.clone_part-3.ensures.succeeds all.1.1.0
+      ∙ c.clone_part-2.ensures.succeeds all.1.0
+      ∙ c.clone_part.ensures.succeeds all.0) ∙ c.if-is_refused.true);
+}
