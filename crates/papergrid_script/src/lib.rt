@@ -1,5 +1,5 @@
 //! Scripts that tell a table: their lines, and the settings and the rows that they tell. The sizes of that table, and what is
-//! written of them.
+//! written of them. And what the programs share.
 #![tactic(auto)]
 
 pub mod answer;
@@ -10,6 +10,7 @@ pub mod explained;
 pub mod laws;
 mod number;
 pub mod output;
+pub mod program;
 pub mod reading;
 pub mod script;
 mod script_line;

@@ -6,7 +6,7 @@ mod totals;
 
 use help::help_text;
 use papergrid::{ReadSource, RunEnd, RunFault, Sizing, WriteSink, run_keeping};
-use papergrid_program::{
+use papergrid_script::program::{
     Output, Request, STANDARD_INPUT, Wanted, asked_for, fault, message_of, shown, status, told,
     unexpected, unopened, unread_words,
 };

@@ -14,7 +14,7 @@ use crate::values::{
 use papergrid::Sizing;
 use papergrid::grid::Junctions;
 use papergrid_csv::{Alignment, Format, Request, Style};
-use papergrid_program::{Request as Asked, Unexpected, asked_by, name_like, shown};
+use papergrid_script::program::{Request as Asked, Unexpected, asked_by, name_like, shown};
 use papergrid_values::Sides;
 use std::alloc::{AllocError, Global};
 use std::env::Args;

@@ -5,7 +5,7 @@ ghost use Rattle.std.specs.Prelude.{◌≡◌, false};
 use papergrid::grid::DrawError;
 use papergrid::{RunFault, Sink, Sizing, Source, read_all};
 use papergrid_json::{DocumentError, Form, SETTINGS, draw_document, read_document};
-use papergrid_program::{name_like, quoted};
+use papergrid_script::program::{name_like, quoted};
 use std::alloc::{AllocError, Global};
 
 /// How the run of a document ended that read its whole input.

@@ -1,6 +1,6 @@
 //! What the program says of itself.
 
-use papergrid_program::add_forms;
+use papergrid_script::program::add_forms;
 use std::alloc::{AllocError, Global};
 
 const TAKEN: &str = "\

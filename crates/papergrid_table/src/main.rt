@@ -22,7 +22,7 @@ use help::help_text;
 use help_json::json_help_text;
 use options::option_names;
 use papergrid::RunFault;
-use papergrid_program::{
+use papergrid_script::program::{
     Request as Asked, STANDARD_INPUT, fault, shown, told, unexpected, unopened, unread_words,
 };
 use run::answered_from;

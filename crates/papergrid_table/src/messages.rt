@@ -7,7 +7,7 @@ use crate::wide::too_wide;
 use bumpalo::Bump;
 use papergrid::grid::DrawError;
 use papergrid_csv::{ColumnName, CsvEnd, Format, Request, Span};
-use papergrid_program::{name_like, quoted, shown};
+use papergrid_script::program::{name_like, quoted, shown};
 use papergrid_values::Position;
 use std::alloc::{AllocError, Global};
 

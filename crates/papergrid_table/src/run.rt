@@ -9,7 +9,7 @@ use crate::wide::no_cut_fits;
 use crate::witness::{witness_of_script, witness_of_text};
 use papergrid::{ReadSource, RunEnd, RunFault, WriteSink, read_all, run_table};
 use papergrid_csv::{CsvEnd, run_csv, run_csv_within};
-use papergrid_program::{Output, fault, message_of, shown, status, unopened};
+use papergrid_script::program::{Output, fault, message_of, shown, status, unopened};
 use std::alloc::{AllocError, Global};
 use std::fs::File;
 use std::io::{BufWriter, Read, Write};

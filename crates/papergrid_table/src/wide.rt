@@ -5,7 +5,7 @@ use crate::sizes::{certified, shown_rows, text_at};
 use bumpalo::Bump;
 use papergrid::util::string::get_text_width;
 use papergrid_csv::{Request, Rows};
-use papergrid_program::shown;
+use papergrid_script::program::shown;
 use papergrid_values::Position;
 use std::alloc::{AllocError, Global};
 

@@ -9,7 +9,7 @@ use std::alloc::{AllocError, Global};
 use std::marker::Model;
 
 /// A size for each track.
-#[derive(Drop)]
+#[derive(Debug, Drop)]
 pub struct SizeList {
     sizes: Vec<usize>,
 }

@@ -1,9 +1,10 @@
 //! How a program ends.
 
-use crate::arguments::Unexpected;
-use crate::names::{not_an_option, shown};
-use crate::output::Output;
-use papergrid::{RunEnd, RunFault};
+use crate::answer::RunEnd;
+use crate::program::arguments::Unexpected;
+use crate::program::names::{not_an_option, shown};
+use crate::program::output::Output;
+use crate::reading::RunFault;
 use std::alloc::{AllocError, Global};
 use std::io;
 use std::io::{ErrorKind, Write};

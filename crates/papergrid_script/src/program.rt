@@ -1,6 +1,5 @@
 //! What the programs share: their arguments, the names that messages speak of, the words for what keeps a script from
 //! its answer, and how they end.
-#![tactic(auto)]
 
 mod arguments;
 mod endings;

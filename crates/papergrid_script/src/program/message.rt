@@ -1,9 +1,10 @@
 //! What is said of a script that has no sizes.
 
-use crate::forms::{form_like, form_of};
-use crate::names::quoted;
-use papergrid::config::Position;
-use papergrid::{Reason, Sizing, explain};
+use crate::explained::{Reason, explain};
+use crate::program::forms::{form_like, form_of};
+use crate::program::names::quoted;
+use papergrid_layout::Sizing;
+use papergrid_values::Position;
 use std::alloc::{AllocError, Global};
 
 /// Why the script that the input spells has no sizes that are chosen so, in one line; none where it has.

@@ -1,6 +1,6 @@
 //! The forms that a line of a script may have.
 
-use crate::names::name_like;
+use crate::program::names::name_like;
 use std::alloc::{AllocError, Global};
 
 /// A form of lines, and what a line of it does.

@@ -1,6 +1,6 @@
 //! What a program is asked for.
 
-use papergrid::Sizing;
+use papergrid_layout::Sizing;
 use std::env::Args;
 
 /// What the arguments ask for.
