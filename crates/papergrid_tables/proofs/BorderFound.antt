@@ -30,7 +30,7 @@ module _ {T : Type 0} where
   copied_or None b = refl
   copied_or (Some x) b = refl
 
-  or_assoc : (a b c : Option T) → option_or (option_or a b) c ≡ option_or a (option_or b c)
+  pub or_assoc : (a b c : Option T) → option_or (option_or a b) c ≡ option_or a (option_or b c)
   or_assoc None b c = refl
   or_assoc (Some x) b c = refl
 
