@@ -135,20 +135,10 @@ fn is_as_told(alloc: Global) -> bool {
     sized && total && certified
 }
 
-#[test]
-fn small_table(rt: HostRuntime) {
-    assert!(rt; is_as_told(rt.alloc()));
-}
-
 fn is_laid_out(alloc: Global) -> Result<bool, LayoutError> {
     let rows = rows(alloc)?;
     let dimension = laid_out(alloc, as_a_list(alloc)?, &rows)?;
     Ok(are_right(Ok(dimension.get_values())))
-}
-
-#[test]
-fn by_a_list(rt: HostRuntime) {
-    assert!(rt; is_laid_out(rt.alloc()) == Ok(true));
 }
 
 /// The texts of a table one after the other.
@@ -175,11 +165,9 @@ fn flat_has_sizes(alloc: Global) -> bool {
 }
 
 #[test]
-fn records_of_ones_own(rt: HostRuntime) {
+fn callers(rt: HostRuntime) {
+    assert!(rt; is_as_told(rt.alloc()));
+    assert!(rt; is_laid_out(rt.alloc()) == Ok(true));
     assert!(rt; flat_has_sizes(rt.alloc()));
-}
-
-#[test]
-fn measured(rt: HostRuntime) {
     assert!(rt; measures("a 👍\nbc") == (2, 4));
 }

@@ -104,16 +104,8 @@ fn has_middle(alloc: Global) -> Result<bool> {
 }
 
 #[test]
-fn heads(rt: HostRuntime) {
+fn crossings(rt: HostRuntime) {
     assert!(rt; matches!(has_head(rt.alloc()), Ok(true)));
-}
-
-#[test]
-fn sides(rt: HostRuntime) {
     assert!(rt; matches!(has_side(rt.alloc()), Ok(true)));
-}
-
-#[test]
-fn middles(rt: HostRuntime) {
     assert!(rt; matches!(has_middle(rt.alloc()), Ok(true)));
 }

@@ -80,21 +80,11 @@ fn is_picture(alloc: Global) -> Result<bool, AllocError> {
     Ok(are(found, &[17, 12, 16, 1]))
 }
 
-#[test]
-fn readme_picture(rt: HostRuntime) {
-    assert!(rt; is_picture(rt.alloc()) == Ok(true));
-}
-
 fn are_crossing(alloc: Global) -> Result<bool, AllocError> {
     let settings = crossing_settings(alloc, 0)?;
     let letters: [&[&str]; 2] = [&["0123456789"], &["", "0123456789"]];
     let found = widths_of(alloc, Sizing::Least, settings, 3, &letters);
     Ok(are(found, &[0, 10, 0]))
-}
-
-#[test]
-fn crossing_column_spans(rt: HostRuntime) {
-    assert!(rt; are_crossing(rt.alloc()) == Ok(true));
 }
 
 /// What two crossing spans without a letter have, whose paddings are as large as can be.
@@ -110,4 +100,10 @@ fn shares_too_large_and_least_not(rt: HostRuntime) {
     assert!(rt; shares.err() == Some(LayoutError::TooLarge));
     let least = widest_of(rt.alloc(), Sizing::Least);
     assert!(rt; are(least, &[0, usize::MAX, 0]));
+}
+
+#[test]
+fn layouts(rt: HostRuntime) {
+    assert!(rt; is_picture(rt.alloc()) == Ok(true));
+    assert!(rt; are_crossing(rt.alloc()) == Ok(true));
 }

@@ -43,11 +43,6 @@ fn is_drawn_so(alloc: Global) -> bool {
     }
 }
 
-#[test]
-fn picture(rt: HostRuntime) {
-    assert!(rt; is_drawn_so(rt.alloc()));
-}
-
 /// The head is bold, and other rows are plain.
 fn has_bold_head(alloc: Global) -> bool {
     let Ok(colors) = bold_head(alloc) else {
@@ -70,12 +65,6 @@ fn is_painted(alloc: Global) -> bool {
     paint(&mut out, &red, "hi").is_ok() && out.as_str() == "say <hi>"
 }
 
-#[test]
-fn colors(rt: HostRuntime) {
-    assert!(rt; has_bold_head(rt.alloc()));
-    assert!(rt; is_painted(rt.alloc()));
-}
-
 /// A mark in the second column, and a blank elsewhere.
 fn are_marked(alloc: Global) -> bool {
     match marks(alloc) {
@@ -86,20 +75,10 @@ fn are_marked(alloc: Global) -> bool {
     }
 }
 
-#[test]
-fn entities(rt: HostRuntime) {
-    assert!(rt; are_marked(rt.alloc()));
-}
-
 /// Texts without padding are as wide as the widest of a column.
 fn is_tight(alloc: Global) -> Result<bool, AllocError> {
     let row = vec![in alloc; String::from_str(alloc, "four")?]?;
     Ok(of_compact(alloc, &[row], &tight()) == Ok(4))
-}
-
-#[test]
-fn compact(rt: HostRuntime) {
-    assert!(rt; is_tight(rt.alloc()) == Ok(true));
 }
 
 /// Two texts of ten columns each, over the first two columns and over the last two.
@@ -123,11 +102,6 @@ fn has_least_sizes(alloc: Global) -> bool {
     first && second && is_least
 }
 
-#[test]
-fn least(rt: HostRuntime) {
-    assert!(rt; has_least_sizes(rt.alloc()));
-}
-
 /// One text of two lines.
 fn measured(alloc: Global) -> Result<VecRecords<Text<&'static str>>, AllocError> {
     Ok(VecRecords::new(measured_rows(alloc, &[&["two\nlines"]])?))
@@ -141,11 +115,6 @@ fn has_sizes_of_measured(alloc: Global) -> bool {
     let found = of_measured(alloc, &records, &config);
     drop(config);
     are_sizes(found, &[5], &[2])
-}
-
-#[test]
-fn measured_once(rt: HostRuntime) {
-    assert!(rt; has_sizes_of_measured(rt.alloc()));
 }
 
 /// A frame of `+` round two texts of three columns each.
@@ -162,6 +131,13 @@ fn has_two_rows(alloc: Global) -> Result<bool, AllocError> {
 }
 
 #[test]
-fn sizes_of_ones_own(rt: HostRuntime) {
+fn callers(rt: HostRuntime) {
+    assert!(rt; is_drawn_so(rt.alloc()));
+    assert!(rt; has_bold_head(rt.alloc()));
+    assert!(rt; is_painted(rt.alloc()));
+    assert!(rt; are_marked(rt.alloc()));
+    assert!(rt; is_tight(rt.alloc()) == Ok(true));
+    assert!(rt; has_least_sizes(rt.alloc()));
+    assert!(rt; has_sizes_of_measured(rt.alloc()));
     assert!(rt; has_two_rows(rt.alloc()) == Ok(true));
 }

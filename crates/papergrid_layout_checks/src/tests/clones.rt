@@ -43,13 +43,6 @@ fn are_sides_equal(alloc: Global) -> bool {
     }
 }
 
-#[test]
-fn equal_clones(rt: HostRuntime) {
-    assert!(rt; is_colour_equal(rt.alloc()));
-    assert!(rt; are_sides_equal(rt.alloc()));
-    assert!(rt; is_equal_clone(Sides::filled(Indent::zero())));
-}
-
 fn is_border_equal(alloc: Global) -> bool {
     laws::equal_clones::<ANSIBuf>();
     match color(alloc) {
@@ -72,12 +65,6 @@ fn is_frame_equal(alloc: Global) -> bool {
     }
 }
 
-#[test]
-fn equal_clones_of_borders(rt: HostRuntime) {
-    assert!(rt; is_border_equal(rt.alloc()));
-    assert!(rt; is_frame_equal(rt.alloc()));
-}
-
 fn is_line_equal(alloc: Global) -> bool {
     match color(alloc) {
         Ok(color) => is_equal_clone(HorizontalLine::new(Some(color), None, None, None)),
@@ -86,7 +73,12 @@ fn is_line_equal(alloc: Global) -> bool {
 }
 
 #[test]
-fn equal_clones_of_lines(rt: HostRuntime) {
+fn clones_equal_their_originals(rt: HostRuntime) {
+    assert!(rt; is_colour_equal(rt.alloc()));
+    assert!(rt; are_sides_equal(rt.alloc()));
+    assert!(rt; is_equal_clone(Sides::filled(Indent::zero())));
+    assert!(rt; is_border_equal(rt.alloc()));
+    assert!(rt; is_frame_equal(rt.alloc()));
     assert!(rt; is_line_equal(rt.alloc()));
     assert!(rt; is_equal_clone(VerticalLine::filled('x')));
 }

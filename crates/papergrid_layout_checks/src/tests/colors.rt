@@ -81,14 +81,6 @@ impl Colors for Everywhere {
     }
 }
 
-#[test]
-fn provided_colour_suffix(rt: HostRuntime) {
-    assert!(rt;
-        is_written(rt.alloc(), &Plain, "P|\u{1b}[0m")
-            && is_written(rt.alloc(), &&Plain, "P|\u{1b}[0m")
-    );
-}
-
 fn are_written(alloc: Global) -> bool {
     let lent = ANSIStr::new("<", ">");
     match ANSIBuf::new(alloc, "<", ">") {
@@ -100,11 +92,6 @@ fn are_written(alloc: Global) -> bool {
         }
         Err(_) => false,
     }
-}
-
-#[test]
-fn written_colours(rt: HostRuntime) {
-    assert!(rt; are_written(rt.alloc()));
 }
 
 fn is_copied(alloc: Global, lent: ANSIStr<'_>, color: &ANSIBuf) -> bool {
@@ -168,11 +155,6 @@ fn is_owned_by_entity(alloc: Global) -> bool {
     is_new && is_found
 }
 
-#[test]
-fn owned_colours_by_entity(rt: HostRuntime) {
-    assert!(rt; is_owned_by_entity(rt.alloc()));
-}
-
 fn are_seen_by_entity(alloc: Global) -> bool {
     let (red, blue) = (ANSIStr::new("r", "R"), ANSIStr::new("b", "B"));
     let mut colors = EntityMap::new(alloc, Some(red));
@@ -185,11 +167,6 @@ fn are_seen_by_entity(alloc: Global) -> bool {
         && is_seen(&&colors, at(2, 1), (true, None))
         && colors.insert(Entity::Column(1), None).is_ok()
         && is_seen(&colors, at(2, 1), (false, None))
-}
-
-#[test]
-fn colours_by_entity(rt: HostRuntime) {
-    assert!(rt; are_seen_by_entity(rt.alloc()));
 }
 
 fn red() -> ANSIStr<'static> {
@@ -227,7 +204,14 @@ fn colours_by_position(rt: HostRuntime) {
 }
 
 #[test]
-fn no_colours(rt: HostRuntime) {
+fn colours(rt: HostRuntime) {
+    assert!(rt;
+        is_written(rt.alloc(), &Plain, "P|\u{1b}[0m")
+            && is_written(rt.alloc(), &&Plain, "P|\u{1b}[0m")
+    );
+    assert!(rt; are_written(rt.alloc()));
+    assert!(rt; is_owned_by_entity(rt.alloc()));
+    assert!(rt; are_seen_by_entity(rt.alloc()));
     assert!(rt;
         is_seen(&&NoColors, at(0, 0), (true, None))
             && is_written(rt.alloc(), &NoColor, "|")

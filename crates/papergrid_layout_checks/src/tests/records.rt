@@ -40,11 +40,6 @@ fn are_of_rows(alloc: Global) -> Result<bool, AllocError> {
     )
 }
 
-#[test]
-fn widths_of_rows(rt: HostRuntime) {
-    assert!(rt; are_of_rows(rt.alloc()) == Ok(true));
-}
-
 fn are_of_vectors(alloc: Global) -> Result<bool, AllocError> {
     let rows = vec![in alloc; vec![in alloc; "a", "bcd"]?, vec![in alloc; "xyz"]?]?;
     Ok(are(of_vectors(alloc, rows, 2), &[3, 3]))
@@ -65,30 +60,10 @@ fn rows_of_one(alloc: Global) -> Result<Vec<Vec<Text<String>>>, AllocError> {
     Ok(vec![in alloc; vec![in alloc; text]?]?)
 }
 
-#[test]
-fn widths_of_vectors(rt: HostRuntime) {
-    assert!(rt; are_of_vectors(rt.alloc()) == Ok(true));
-}
-
-#[test]
-fn widths_of_slices(rt: HostRuntime) {
-    assert!(rt; are_of_slices(rt.alloc()) == Ok(true));
-}
-
-#[test]
-fn widths_of_texts(rt: HostRuntime) {
-    assert!(rt; are_of_texts(rt.alloc()) == Ok(true));
-}
-
 fn are_of_records(alloc: Global) -> Result<bool, AllocError> {
     let records = IterRecords::new(owned_rows(alloc)?, 2, None);
     let are_lent = are(of_lent_records(alloc, &records), &[3, 3]);
     Ok(are(of_nested(alloc, records, 2), &[3, 3]) && are_lent)
-}
-
-#[test]
-fn widths_of_records(rt: HostRuntime) {
-    assert!(rt; are_of_records(rt.alloc()) == Ok(true));
 }
 
 fn are_of_held(alloc: Global) -> Result<bool, AllocError> {
@@ -101,22 +76,12 @@ fn are_of_held(alloc: Global) -> Result<bool, AllocError> {
     )
 }
 
-#[test]
-fn widths_of_held_rows(rt: HostRuntime) {
-    assert!(rt; are_of_held(rt.alloc()) == Ok(true));
-}
-
 fn are_of_chunks(alloc: Global) -> Result<bool, AllocError> {
     let texts = owned(alloc, &["a", "bcd", "xyz", "", "efghi"])?;
     Ok(
         are(of_chunks(alloc, texts.as_slice(), 2), &[5, 3])
             && are(of_exact_chunks(alloc, texts.as_slice(), 2), &[3, 3]),
     )
-}
-
-#[test]
-fn widths_of_one_list(rt: HostRuntime) {
-    assert!(rt; are_of_chunks(rt.alloc()) == Ok(true));
 }
 
 // The counts are those that were given, also through references.
@@ -136,21 +101,11 @@ fn are_false_counts(alloc: Global) -> Result<bool, AllocError> {
     Ok(is_read & has_false_counts(&records))
 }
 
-#[test]
-fn false_counts(rt: HostRuntime) {
-    assert!(rt; are_false_counts(rt.alloc()) == Ok(true));
-}
-
 fn are_in_order(alloc: Global) -> Result<bool, AllocError> {
     let rows = owned_rows(alloc)?;
     let lent = IterRecords::new(rows.as_slice(), 2, None);
     let copy = lent;
     Ok(copy == lent && copy < IterRecords::new(rows.as_slice(), 3, None))
-}
-
-#[test]
-fn orders_of_records(rt: HostRuntime) {
-    assert!(rt; are_in_order(rt.alloc()) == Ok(true));
 }
 
 // A pushed row changes no count until they are made anew.
@@ -175,6 +130,15 @@ fn are_counted_anew(records: VecRecords<String>) -> bool {
 }
 
 #[test]
-fn pushed_row(rt: HostRuntime) {
+fn records_of_each_type(rt: HostRuntime) {
+    assert!(rt; are_of_rows(rt.alloc()) == Ok(true));
+    assert!(rt; are_of_vectors(rt.alloc()) == Ok(true));
+    assert!(rt; are_of_slices(rt.alloc()) == Ok(true));
+    assert!(rt; are_of_texts(rt.alloc()) == Ok(true));
+    assert!(rt; are_of_records(rt.alloc()) == Ok(true));
+    assert!(rt; are_of_held(rt.alloc()) == Ok(true));
+    assert!(rt; are_of_chunks(rt.alloc()) == Ok(true));
+    assert!(rt; are_false_counts(rt.alloc()) == Ok(true));
+    assert!(rt; are_in_order(rt.alloc()) == Ok(true));
     assert!(rt; is_pushed(rt.alloc()) == Ok(true));
 }

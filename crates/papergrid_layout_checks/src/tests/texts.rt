@@ -23,11 +23,6 @@ fn is_counted(newlines: &str, count: usize) -> bool {
     count_byte(newlines.as_bytes(), b'\n') == count && count_lines(newlines) == count + 1
 }
 
-#[test]
-fn byte_counts(rt: HostRuntime) {
-    assert!(rt; are_counted(rt.alloc()) == Ok(true));
-}
-
 fn is_next(lines: &mut Lines<'_>, line: Option<&str>) -> bool {
     lines.next() == line
 }
@@ -74,11 +69,6 @@ fn is_moved_and_cloned(alloc: Global) -> Result<bool, AllocError> {
     Ok(is_kept(&moved) && is_kept(&copy))
 }
 
-#[test]
-fn moved_and_cloned(rt: HostRuntime) {
-    assert!(rt; is_moved_and_cloned(rt.alloc()) == Ok(true));
-}
-
 fn is_cloned(text: &Text<&'static str>) -> Result<bool, AllocError> {
     let copy = text.clone()?;
     Ok(copy == *text)
@@ -93,11 +83,6 @@ fn is_exact(alloc: Global) -> Result<bool, AllocError> {
     let exact = Text::exact("ab", 7, Vec::new(alloc));
     let is_same = is_cloned(&exact)? & is_shown(alloc, &exact, "ab")?;
     Ok(is_same & (exact.into_inner() == "ab"))
-}
-
-#[test]
-fn exact_text(rt: HostRuntime) {
-    assert!(rt; is_exact(rt.alloc()) == Ok(true));
 }
 
 fn hash_of<T: Hash>(value: &T) -> u64 {
@@ -132,11 +117,6 @@ fn is_new_exact(alloc: Global) -> Result<bool, AllocError> {
     Ok(is_alike_exact(alloc, &first)? & is_more_than_none(alloc, &first)?)
 }
 
-#[test]
-fn new_equals_exact(rt: HostRuntime) {
-    assert!(rt; is_new_exact(rt.alloc()) == Ok(true));
-}
-
 fn are_lines_by_width(alloc: Global) -> Result<bool, AllocError> {
     let owned = owned_line(alloc)?;
     let lent = StrWithWidth::new(CowStr::Borrowed("bc"), 2);
@@ -149,6 +129,10 @@ fn is_narrow(line: &StrWithWidth<'_>) -> bool {
 }
 
 #[test]
-fn lines_with_width(rt: HostRuntime) {
+fn measured_texts(rt: HostRuntime) {
+    assert!(rt; are_counted(rt.alloc()) == Ok(true));
+    assert!(rt; is_moved_and_cloned(rt.alloc()) == Ok(true));
+    assert!(rt; is_exact(rt.alloc()) == Ok(true));
+    assert!(rt; is_new_exact(rt.alloc()) == Ok(true));
     assert!(rt; are_lines_by_width(rt.alloc()) == Ok(true));
 }

@@ -33,11 +33,6 @@ fn is_walked(alloc: Global) -> bool {
     }
 }
 
-#[test]
-fn collected_walk(rt: HostRuntime) {
-    assert!(rt; is_walked(rt.alloc()));
-}
-
 fn are_sums() -> bool {
     let place = at(1, 2) + at(3, 4);
     place == at(4, 6)
@@ -62,11 +57,6 @@ fn are_converted(place: Position) -> bool {
         && Entity::from((0, 1)) == Entity::Cell(0, 1)
 }
 
-#[test]
-fn position_sums(rt: HostRuntime) {
-    assert!(rt; are_sums() && is_moved() && are_converted(at(0, 1)));
-}
-
 fn are_in_order(sides: Sides<u8>) -> bool {
     sides.fold(0u64, |a, x| a * 10 + u64::from(x)) == 1234
         && (sides.left, sides.right, sides.top, sides.bottom) == (1, 2, 3, 4)
@@ -81,25 +71,6 @@ fn are_mapped(sides: Sides<u8>) -> bool {
 fn four_sides(rt: HostRuntime) {
     let sides = Sides::new(1u8, 2, 3, 4);
     assert!(rt; are_in_order(sides) && are_mapped(sides));
-}
-
-#[test]
-fn empty_sides(rt: HostRuntime) {
-    assert!(rt;
-        Sides::<Option<u8>>::new(None, None, None, None).is_empty()
-            && !Sides::new(None, None, None, Some(1u8)).is_empty()
-            && !Indent::new(2, 'x').is_empty()
-            && Indent::spaced(0).is_empty()
-    );
-}
-
-#[test]
-fn defaults(rt: HostRuntime) {
-    assert!(rt;
-        Sides::default() == Sides::filled(Indent::zero())
-            && Position::default() == at(0, 0)
-            && Formatting::default() == Formatting::new(false, false, false)
-    );
 }
 
 fn is_of_parts(border: Border<u8>) -> bool {
@@ -164,4 +135,21 @@ fn lines_down(rt: HostRuntime) {
     assert!(rt; filled == VerticalLine::full(1, 1, 1, 1) && !filled.is_empty());
     let empty = VerticalLine::<u8>::default();
     assert!(rt; empty == VerticalLine::empty() && empty.is_empty());
+}
+
+#[test]
+fn calls_of_values(rt: HostRuntime) {
+    assert!(rt; is_walked(rt.alloc()));
+    assert!(rt; are_sums() && is_moved() && are_converted(at(0, 1)));
+    assert!(rt;
+        Sides::<Option<u8>>::new(None, None, None, None).is_empty()
+            && !Sides::new(None, None, None, Some(1u8)).is_empty()
+            && !Indent::new(2, 'x').is_empty()
+            && Indent::spaced(0).is_empty()
+    );
+    assert!(rt;
+        Sides::default() == Sides::filled(Indent::zero())
+            && Position::default() == at(0, 0)
+            && Formatting::default() == Formatting::new(false, false, false)
+    );
 }
