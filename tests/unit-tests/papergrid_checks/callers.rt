@@ -1,0 +1,148 @@
+//! The first worked table of the documents, by each caller that finds its sizes.
+
+use crate::certificates::{is_certified, is_right};
+use crate::own::{Flat, of_flat};
+use crate::settings::{as_a_list, laid_out, one_by_one};
+use crate::sizes::{covering_width, sizes};
+use crate::tests::rows_of;
+use crate::texts::measures;
+use papergrid::config::Position;
+use papergrid::config::spanned::SpannedConfig;
+use papergrid::dimension::LayoutError;
+use papergrid::records::IterRecords;
+use papergrid::records::vec_records::Text;
+use std::alloc::{AllocError, Global};
+
+/// These rows of texts, measured.
+pub fn measured_rows(
+    alloc: Global,
+    texts: &[&[&'static str]],
+) -> Result<Vec<Vec<Text<&'static str>>>, AllocError> {
+    let mut rows = Vec::new(alloc);
+    for row in texts {
+        rows.push(measured_row(alloc, row)?)?;
+    }
+    Ok(rows)
+}
+
+fn measured_row(
+    alloc: Global,
+    texts: &[&'static str],
+) -> Result<Vec<Text<&'static str>>, AllocError> {
+    let mut row = Vec::new(alloc);
+    for text in texts {
+        row.push(Text::new(alloc, *text)?)?;
+    }
+    Ok(row)
+}
+
+/// Two rows of three texts.
+fn rows(alloc: Global) -> Result<Vec<Vec<&'static str>>, AllocError> {
+    rows_of(alloc, &[&["one", "two", "three"], &["four", "five", "six"]])
+}
+
+/// Whether these widths and heights were found.
+pub fn are_sizes(
+    found: Result<(Vec<usize>, Vec<usize>), LayoutError>,
+    widths: &[usize],
+    heights: &[usize],
+) -> bool {
+    match found {
+        Ok(sizes) => sizes.0.as_slice() == widths && sizes.1.as_slice() == heights,
+        Err(_) => false,
+    }
+}
+
+/// The first cell spans two columns and hides the second one; each text has two blanks beside it.
+fn are_right(found: Result<(Vec<usize>, Vec<usize>), LayoutError>) -> bool {
+    are_sizes(found, &[6, 6, 7], &[1, 1])
+}
+
+fn has_sizes(alloc: Global, config: &SpannedConfig) -> bool {
+    match rows(alloc) {
+        Ok(rows) => are_right(sizes(alloc, &rows, config)),
+        Err(_) => false,
+    }
+}
+
+/// 19 columns of widths, and four of lines.
+fn has_total(alloc: Global, config: &SpannedConfig) -> bool {
+    match rows(alloc) {
+        Ok(rows) => { covering_width(alloc, IterRecords::new(&rows, 3, None), config) == Ok(23) }
+        Err(_) => false,
+    }
+}
+
+/// Certified by the cells below the first one and by the third cell of the first row; not by a hidden one.
+fn has_certificate(alloc: Global, config: &SpannedConfig) -> bool {
+    let Ok(rows) = rows(alloc) else {
+        return false;
+    };
+    let cells = [
+        Position::new(1, 0),
+        Position::new(1, 1),
+        Position::new(0, 2),
+    ];
+    let hidden = [
+        Position::new(1, 0),
+        Position::new(0, 1),
+        Position::new(0, 2),
+    ];
+    is_certified(alloc, &rows, config) == Ok(true)
+        && is_right(IterRecords::new(&rows, 3, None), config, &[6, 6, 7], &cells)
+        && !is_right(
+            IterRecords::new(&rows, 3, None),
+            config,
+            &[6, 6, 7],
+            &hidden,
+        )
+}
+
+/// Whether the table has its sizes, its total and its certificate.
+fn is_as_told(alloc: Global) -> bool {
+    let Ok(config) = one_by_one(alloc) else {
+        return false;
+    };
+    let sized = has_sizes(alloc, &config);
+    let total = has_total(alloc, &config);
+    let certified = has_certificate(alloc, &config);
+    drop(config);
+    sized && total && certified
+}
+
+fn is_laid_out(alloc: Global) -> Result<bool, LayoutError> {
+    let rows = rows(alloc)?;
+    let dimension = laid_out(alloc, as_a_list(alloc)?, &rows)?;
+    Ok(are_right(Ok(dimension.get_values())))
+}
+
+/// The texts of a table one after the other.
+fn flat(alloc: Global) -> Result<Vec<String>, AllocError> {
+    let mut texts = Vec::new(alloc);
+    for text in ["one", "two", "three", "four", "five", "six"] {
+        texts.push(String::from_str(alloc, text)?)?;
+    }
+    Ok(texts)
+}
+
+/// Whether records of one's own have the same sizes.
+fn flat_has_sizes(alloc: Global) -> bool {
+    let Ok(texts) = flat(alloc) else {
+        return false;
+    };
+    let flat = Flat { texts, columns: 3 };
+    let Ok(config) = one_by_one(alloc) else {
+        return false;
+    };
+    let found = of_flat(alloc, &flat, &config);
+    drop(config);
+    are_right(found)
+}
+
+#[test]
+fn callers(rt: HostRuntime) {
+    assert!(rt; is_as_told(rt.alloc()));
+    assert!(rt; is_laid_out(rt.alloc()) == Ok(true));
+    assert!(rt; flat_has_sizes(rt.alloc()));
+    assert!(rt; measures("a 👍\nbc") == (2, 4));
+}
