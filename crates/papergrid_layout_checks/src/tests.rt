@@ -1,12 +1,18 @@
-//! The laws at a type each, and callers with contracts: of clones, of walks, of colours of one's own, of records of each type
-//! that they come in, of records by position, and of sizes. Calls that are refused memory stand in `refused`.
+//! The laws at a type each; orders, hashes and clones of each type of values, operators, conversions, and colours of a
+//! caller's own; measured texts as values; and callers with contracts: of records of each type that they come in, of
+//! records by position, and of sizes. Calls that are refused memory stand in `refused`.
 
 mod clones;
+mod colors;
 mod consumer;
+mod exact_sizes;
 mod laws_of_records;
 mod laws_of_values;
+mod orders;
 mod peeks;
 mod record_callers;
+mod records;
 mod refused;
 mod size_callers;
-mod value_callers;
+mod texts;
+mod values;

@@ -1,16 +1,13 @@
 //! Calls of the facade that allocate, for `tests/refuse-each`, as those of `papergrid_layout_checks`: where a request is
 //! refused to a call, the test ends with `refused` and the number of the call.
 
-use crate::tests::laid_out::{PICTURE, picture_settings, widths_of};
+use crate::tests::layouts::{PICTURE, picture_settings, widths_of};
+use crate::tests::scripts::EXAMPLES;
 use papergrid::dimension::LayoutError;
 use papergrid::{Sizing, explain};
 use std::alloc::{AllocError, Global};
 use std::process::Abort;
 use std::test::Fail;
-
-/// The script of the picture.
-const SCRIPT: &[u8] =
-    b"columns 4\nborder +\ncolspan 1,1 3\nrowspan 0,0 2\npad 0,0 4 4 1 1\nrow\ncell Papergrid\ncell is a library\ncell for print tables\ncell !\nrow\ncell\ncell Just like this\ncell\ncell\n";
 
 /// What a test of so many calls ends with by the answer of one.
 fn says<A: Drop>(number: usize, of: usize, answer: Result<A, AllocError>) -> Result<(), Fail> {
@@ -40,7 +37,8 @@ fn layouts(rt: HostRuntime) -> Result<(), Fail> {
 /// A script that has sizes, and to know that allocates.
 #[test]
 fn explain_of_picture(rt: HostRuntime) -> Result<(), Fail> {
-    let answer = explain(rt.alloc(), Sizing::ByShares, SCRIPT);
-    assert!(rt; answer == Ok(None) || answer == Err(AllocError));
+    let [(script, reason), ..] = EXAMPLES;
+    let answer = explain(rt.alloc(), Sizing::ByShares, script);
+    assert!(rt; answer == Ok(reason) || answer == Err(AllocError));
     says(1, 1, answer)
 }

@@ -6,10 +6,10 @@ ghost use Rattle.papergrid_text.specs.Held.{HasCell, cell_text};
 ghost use Rattle.papergrid_text.specs.HeldRows.{rows_held};
 ghost use Rattle.papergrid_text.specs.Text.{text_width};
 
-use papergrid_text::{PeekableRecords, StrWithWidth, Text, VecRecords};
+use crate::tests::texts::given_lines;
+use papergrid_text::{PeekableRecords, Text, VecRecords};
 use papergrid_values::Position;
 use std::alloc::{AllocError, Global};
-use std::borrow::CowStr;
 
 /// The text of a cell, how many lines it has, its width, and a line with its width.
 pub fn peek<R: PeekableRecords>(
@@ -54,19 +54,6 @@ fn provided_peeks(rt: HostRuntime) {
             && peek(&&one, position, 1) == ("a\nb", 2, 1, "b", 1)
             && one.get_line(position, 2) == ""
     );
-}
-
-/// The line `bc`, as a text of its own.
-pub fn owned_line(alloc: Global) -> Result<StrWithWidth<'static>, AllocError> {
-    Ok(StrWithWidth::new(CowStr::Owned(String::from_str(alloc, "bc")?), 2))
-}
-
-/// The lines `a` and `bc`, as texts of their own.
-pub fn given_lines(alloc: Global) -> Result<Vec<StrWithWidth<'static>>, AllocError> {
-    let mut lines = Vec::new(alloc);
-    lines.push(StrWithWidth::new(CowStr::Borrowed("a"), 1))?;
-    lines.push(owned_line(alloc)?)?;
-    Ok(lines)
 }
 
 /// Whether records answer what a cell of one line tells of its width, and one that tells its lines too.

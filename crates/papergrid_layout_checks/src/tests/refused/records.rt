@@ -1,7 +1,7 @@
 //! Clones of records that own their rows.
 
 use super::{call, clones, says};
-use crate::tests::size_callers::rows_of;
+use crate::tests::exact_sizes::rows_of;
 use papergrid_text::{IterRecords, RowIter, VecRecords};
 use std::alloc::{AllocError, Global};
 use std::test::Fail;

@@ -1,13 +1,29 @@
 //! Operators, conversions, closures and defaults of the values.
 
-use crate::tests::value_callers::walked;
+ghost use Rattle.std.specs.Prelude.{◌≡◌, IfOk};
+ghost use Rattle.papergrid_values.specs.Entities.{positions};
+
 use papergrid_values::{
     Border, Borders, Entity, Formatting, HorizontalLine, Indent, Position, Sides, VerticalLine,
 };
-use std::alloc::Global;
+use std::alloc::{AllocError, Global};
 
-fn at(row: usize, col: usize) -> Position {
+fn at(row: usize, col: usize) -> Position
+    ensures { result ≡ record { row = row; col = col } }
+{
     Position::new(row, col)
+}
+
+// A caller's `collect` knows the list.
+fn walked(
+    alloc: Global,
+    entity: Entity,
+    rows: usize,
+    cols: usize,
+) -> Result<Vec<Position>, AllocError>
+    ensures { IfOk result (λ walk. walk.items ≡ positions entity rows cols) }
+{
+    entity.iter(rows, cols).collect(alloc)
 }
 
 fn is_walked(alloc: Global) -> bool {

@@ -1,6 +1,9 @@
 //! Colours as texts, and colours by position, each kind through its bound.
 
-use crate::tests::value_callers::{Everywhere, Plain, seen};
+ghost use Rattle.std.specs.Prelude.{◌≡◌, None, Some};
+ghost use Rattle.std.specs.Bool.{OnTrue};
+ghost use Rattle.std.specs.Option.{option_copied};
+
 use papergrid_maps::{Colors, EntityMap, NoColor, NoColors};
 use papergrid_values::{ANSIBuf, ANSIFmt, ANSIStr, Entity, Position};
 use std::alloc::Global;
@@ -10,6 +13,14 @@ use std::fmt::Write;
 
 fn at(row: usize, col: usize) -> Position {
     Position::new(row, col)
+}
+
+// Whether it is empty, and its colour at a position. A caller learns from the bound alone that
+// there is none where it is empty.
+fn seen<C: Colors>(colors: &C, position: Position) -> (bool, Option<&C::Color>)
+    ensures { OnTrue result.0 (option_copied result.1 ≡ None) }
+{
+    (colors.is_empty(), colors.get_color(position))
 }
 
 // Whether that is seen of colours at a position.
@@ -33,6 +44,40 @@ fn is_written<C: ANSIFmt>(alloc: Global, color: &C, expected: &str) -> bool {
     match written(alloc, color) {
         Ok(text) => text.as_str() == expected,
         Err(_) => false,
+    }
+}
+
+// A colour with no suffix of its own.
+#[derive(Drop)]
+struct Plain;
+
+impl ANSIFmt for Plain {
+    fn fmt_ansi_prefix<W: fmt::Write>(&self, f: &mut W) -> fmt::Result {
+        f.write_str("P")
+    }
+}
+
+// One colour for all cells.
+#[derive(Drop)]
+struct Everywhere {
+    color: ANSIStr<'static>,
+}
+
+impl Colors for Everywhere {
+    type Color = ANSIStr<'static>;
+
+    ghost color_at = { λ colors _. Some colors.color };
+
+    ghost is_blank = { λ _. ⊥ };
+
+    ghost blank_has_none = { λ colors position blank. absurd blank };
+
+    fn get_color(&self, _position: Position) -> Option<&ANSIStr<'static>> {
+        Some(&self.color)
+    }
+
+    fn is_empty(&self) -> bool {
+        false
     }
 }
 

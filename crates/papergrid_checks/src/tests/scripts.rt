@@ -6,7 +6,7 @@ use papergrid::{Reason, RunEnd, Sizing, WriteSink, explain};
 use std::alloc::Global;
 
 /// Each script of `examples`, and why it has no sizes.
-const EXAMPLES: [(&[u8], Option<Reason>); 3] = [
+pub const EXAMPLES: [(&[u8], Option<Reason>); 3] = [
     (
         b"columns 4\nborder +\ncolspan 1,1 3\nrowspan 0,0 2\npad 0,0 4 4 1 1\nrow\ncell Papergrid\ncell is a library\ncell for print tables\ncell !\nrow\ncell\ncell Just like this\ncell\ncell\n",
         None,

@@ -3,12 +3,37 @@
 use crate::places::{all_places, clicked, first_separator, place_of};
 use crate::refusals::{is_hidden, out_of_table};
 use crate::settings::one_by_one;
-use crate::tests::even::Even;
 use papergrid::Table;
 use papergrid::config::Position;
 use papergrid::config::spanned::SpannedConfig;
-use papergrid::dimension::{LayoutError, Place, cell_at, places};
+use papergrid::dimension::{Dimension, LayoutError, Place, cell_at, places};
 use std::alloc::{AllocError, Global};
+
+/// Columns that are all as wide, and rows that are all as high.
+struct Even {
+    width: usize,
+    height: usize,
+}
+
+impl Dimension for Even {
+    ghost use Rattle.std.specs.Prelude.{⊤};
+
+    ghost has_column = { λ _ _. ⊤ };
+
+    ghost has_row = { λ _ _. ⊤ };
+
+    ghost width_of = { λ even _. even.width };
+
+    ghost height_of = { λ even _. even.height };
+
+    fn get_width(&self, _column: usize) -> usize {
+        self.width
+    }
+
+    fn get_height(&self, _row: usize) -> usize {
+        self.height
+    }
+}
 
 /// Each column is three columns of a terminal wide, and each row one line high.
 const SIZES: Even = Even {

@@ -1,13 +1,42 @@
 //! Sizes that callers learn exactly, dimensions as values, and rows that are taken for one line each.
 
-use crate::tests::size_callers::{
-    estimate_compact, of_held, of_lent, records_of, width_by_estimate,
-};
-use papergrid_config::SpannedConfig;
+ghost use Rattle.std.specs.Prelude.{◌≡◌, IfOk, OnOk, length};
+ghost use Rattle.papergrid_text.specs.HeldRows.{column_count};
+
+use crate::tests::size_callers::{of_held, of_lent, width_by_estimate};
+use papergrid_config::{CompactConfig, SpannedConfig};
 use papergrid_layout::{CompactGridDimension, Dimension, Estimate, IterGridDimension, LayoutError};
 use papergrid_text::VecRecords;
 use std::alloc::{AllocError, Global};
 use std::test::Fail;
+
+fn row_of(alloc: Global, texts: &[&str]) -> Result<Vec<String>, AllocError> {
+    let mut row = Vec::new(alloc);
+    for text in texts {
+        row.push(String::from_str(alloc, *text)?)?;
+    }
+    Ok(row)
+}
+
+/// Rows that own their texts.
+pub fn rows_of(alloc: Global, rows: &[&[&str]]) -> Result<Vec<Vec<String>>, AllocError> {
+    let mut held = Vec::new(alloc);
+    for texts in rows {
+        held.push(row_of(alloc, *texts)?)?;
+    }
+    Ok(held)
+}
+
+/// Records of rows of so many columns.
+fn records_of(
+    alloc: Global,
+    columns: usize,
+    rows: &[&[&str]],
+) -> Result<VecRecords<String>, AllocError>
+    ensures { IfOk result (λ records. column_count records ≡ columns) }
+{
+    Ok(VecRecords::with_size(rows_of(alloc, rows)?, 0, columns))
+}
 
 /// Whether the widths are the same, lent and by value.
 fn is_same_lent(
@@ -63,6 +92,17 @@ fn clones(rt: HostRuntime) -> Result<(), Fail> {
     drop(config);
     assert!(rt; are_clones == Ok(true));
     Ok(())
+}
+
+/// Estimates records by the default configuration.
+fn estimate_compact(
+    records: &VecRecords<String>,
+    dimension: &mut CompactGridDimension,
+) -> Result<(), LayoutError>
+    ensures { OnOk result (length dimension.new.widths ≡ column_count records.now) }
+{
+    let config = CompactConfig::new();
+    dimension.estimate(records, &config)
 }
 
 fn is_compact(alloc: Global) -> Result<bool, LayoutError> {

@@ -1,12 +1,13 @@
 //! Writers that fail, of the printers over records: what they took is a beginning of the picture.
 
-use crate::tests::callers::measured_rows;
-use crate::tests::even::Even;
-use crate::tests::rows_of;
+ghost use Rattle.std.specs.Prelude.{◌≤◌, IfOk, length};
+
+use crate::tests::{measured_rows, rows_of};
 use papergrid::WriteSink;
 use papergrid::colors::NoColors;
 use papergrid::config::Borders;
 use papergrid::config::spanned::SpannedConfig;
+use papergrid::dimension::Dimension;
 use papergrid::grid::DrawError;
 use papergrid::grid::iterable::IterGrid;
 use papergrid::grid::peekable::PeekableGrid;
@@ -26,7 +27,9 @@ struct Limited {
 
 impl Limited {
     /// How many bytes of a piece it takes.
-    fn take(&mut self, piece: &[u8]) -> Result<usize, AllocError> {
+    fn take(&mut self, piece: &[u8]) -> Result<usize, AllocError>
+        ensures { IfOk result (λ count. count ≤ length piece.now) }
+    {
         let count = self.left.min(piece.len());
         self.written.extend_from_slice(&piece[..count])?;
         self.left -= count;
@@ -56,11 +59,31 @@ impl Write for Limited {
     }
 }
 
-/// Each column is one column of a terminal wide, and each row one line high.
-const ONES: Even = Even {
-    width: 1,
-    height: 1,
-};
+/// Each column is one wide, and each row one high.
+#[derive(Drop)]
+struct Ones;
+
+impl Dimension for Ones {
+    ghost use Rattle.std.specs.Prelude.{⊤};
+
+    ghost has_column = { λ _ _. ⊤ };
+
+    ghost has_row = { λ _ _. ⊤ };
+
+    ghost width_of = { λ _ _. 1 };
+
+    ghost height_of = { λ _ _. 1 };
+
+    fn get_width(&self, _column: usize) -> usize {
+        let _dimension = self;
+        1
+    }
+
+    fn get_height(&self, _row: usize) -> usize {
+        let _dimension = self;
+        1
+    }
+}
 
 /// A table of one row in a frame, whose lines may have a colour, and what a writer takes of its picture.
 struct Broken {
@@ -127,7 +150,7 @@ fn is_measured_told(
     config: &SpannedConfig,
     taken: &'static str,
 ) -> bool {
-    let grid = PeekableGrid::new(records, config, &ONES, &NoColors);
+    let grid = PeekableGrid::new(records, config, &Ones, &NoColors);
     let mut writer = writer_of(alloc, taken);
     let as_text = grid.build(alloc, &mut writer);
     let is_text = is_told(as_text, writer, taken);
@@ -143,11 +166,11 @@ fn is_text_told(
     config: &SpannedConfig,
     taken: &'static str,
 ) -> bool {
-    let grid = IterGrid::new(records, config, &ONES, &NoColors);
+    let grid = IterGrid::new(records, config, &Ones, &NoColors);
     let mut writer = writer_of(alloc, taken);
     let as_text = grid.build(alloc, &mut writer);
     let is_text = is_told(as_text, writer, taken);
-    let grid = IterGrid::new(records, config, &ONES, &NoColors);
+    let grid = IterGrid::new(records, config, &Ones, &NoColors);
     let mut sink = writer_of(alloc, taken);
     let as_bytes = grid.write_to(alloc, &mut WriteSink::new(&mut sink));
     is_told(as_bytes, sink, taken) && is_text

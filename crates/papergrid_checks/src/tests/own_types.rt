@@ -2,7 +2,7 @@
 
 use crate::cells::{Person, of_people};
 use crate::entries::{Entry, of_entries};
-use crate::tests::callers::are_sizes;
+use crate::tests::are_sizes;
 use papergrid::config::spanned::SpannedConfig;
 use std::alloc::{AllocError, Global};
 

@@ -1,6 +1,5 @@
 //! Counts of long runs, and what measured texts keep where they are moved, cloned, compared and hashed.
 
-use crate::tests::peeks::{given_lines, owned_line};
 use papergrid_text::string::{Lines, count_lines, get_lines};
 use papergrid_text::{Cell, StrWithWidth, Text, count_byte};
 use std::alloc::{AllocError, Global};
@@ -41,6 +40,19 @@ fn lines_end(rt: HostRuntime) {
 /// A text of two lines that was measured.
 fn measured(alloc: Global) -> Result<Text<String>, AllocError> {
     Text::new(alloc, String::from_str(alloc, "a\nbc")?)
+}
+
+/// The line `bc`, as a text of its own.
+fn owned_line(alloc: Global) -> Result<StrWithWidth<'static>, AllocError> {
+    Ok(StrWithWidth::new(CowStr::Owned(String::from_str(alloc, "bc")?), 2))
+}
+
+/// The lines `a` and `bc`, as texts of their own.
+pub fn given_lines(alloc: Global) -> Result<Vec<StrWithWidth<'static>>, AllocError> {
+    let mut lines = Vec::new(alloc);
+    lines.push(StrWithWidth::new(CowStr::Borrowed("a"), 1))?;
+    lines.push(owned_line(alloc)?)?;
+    Ok(lines)
 }
 
 fn is_kept(text: &Text<String>) -> bool {
