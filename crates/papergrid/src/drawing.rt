@@ -14,7 +14,7 @@ ghost use Rattle.papergrid_grid.specs.Pictures.{IsDrawingBy, IsDrawingWith, IsFa
 ghost use Rattle.papergrid_script.specs.Inputs.{IsWholeInput};
 ghost use Rattle.papergrid_script.specs.Scripts.{Table};
 ghost use Rattle.papergrid.specs.ForProofs.Drawn.{Runs};
-ghost use Rattle.papergrid_grid.specs.ForProofs.Drawn.{Draws};
+ghost use Rattle.papergrid_grid.specs.ForProofs.Drawn.{WritesPicture};
 ghost use Rattle.papergrid_script.specs.Seen.{rows_seen, table_seen};
 ghost use Rattle.papergrid_script.specs.declared.reading.RunFault.TheVariants.{Read};
 ghost use Rattle.papergrid_script.specs.declared.reading.RunFault.TheVariants as run_faults;
@@ -88,7 +88,7 @@ fn draw_records<T: AsStr, W: Sink>(
     sizing: Sizing,
     sink: &mut W,
 ) -> Result<(), DrawError>
-    ensures { Draws W.contents W.has_failed W.has_stalled
+    ensures { WritesPicture W.contents W.has_failed W.has_stalled
         (IsDrawingWith (column_count records.now) (texts_held T.text records.now) sizing
         config.now)
         (IsFaultWith (column_count records.now) (texts_held T.text records.now) sizing config.now)
@@ -250,7 +250,7 @@ fn draw_rows<W: Sink>(
     rows: &[&[&str]],
     writer: &mut W,
 ) -> Result<(), DrawError>
-    ensures { Draws W.contents W.has_failed W.has_stalled
+    ensures { WritesPicture W.contents W.has_failed W.has_stalled
         (IsDrawingWith columns (rows_seen rows.now) sizing config.now)
         (IsFaultWith columns (rows_seen rows.now) sizing config.now)
         lined writer.old writer.new result }

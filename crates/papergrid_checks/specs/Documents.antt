@@ -1,22 +1,14 @@
 -- What a caller asks of the picture of a JSON document.
-use Rattle.std.specs.Prelude.{◌≡◌, ⊤, ℕ, List}
+use Rattle.std.specs.Prelude.{◌≡◌, ℕ, List}
 use Rattle.papergrid_draw.specs.Drawings.{Drawing}
 use Rattle.papergrid_grid.specs.Lined.{lined}
 use Rattle.papergrid_layout.specs.declared.sizing.Sizing.TheVariants.{ByShares}
-use Rattle.papergrid_grid.specs.Pictures.{IsRefusal}
 use Rattle.papergrid_json.specs.Documents.{AreInRange}
 use Rattle.papergrid_json.specs.Pictures.{IsDocumentDrawing}
 use Rattle.papergrid_json.specs.declared.document.Document.{Document}
-use Rattle.papergrid_checks.specs.declared.documents.TableError.{TableError}
-use Rattle.papergrid_checks.specs.declared.documents.TableError.TheVariants.{Undrawn, Unread}
 
 -- these are the lines of the picture of a document whose settings are in range, with sizes by shares
 abbrev pub IsOfDocument : List ℕ → Type 0
 IsOfDocument output =
     (document : Document) × AreInRange document.settings.items
     × ((d : Drawing) × IsDocumentDrawing document ByShares d × (output ≡ lined d))
-
--- the text tells no table, or the table has no picture
-abbrev pub IsTableRefused : TableError → Type 0
-IsTableRefused (Unread e) = ⊤
-IsTableRefused (Undrawn e) = IsRefusal e

@@ -1,6 +1,5 @@
 -- The definitions that the contracts of the callers cite.
 pub mod Documents
-pub mod Entries
 pub mod Lines
 pub mod Readings
 pub mod Rows

@@ -1,10 +1,9 @@
 //! A table of values of a struct with named fields.
 
-ghost use Rattle.std.specs.Prelude.{◌≡◌, IfOk, map};
+ghost use Rattle.std.specs.Prelude.{◌≡◌, ◌∷◌, [], IfOk, map, string_bytes};
 ghost use Rattle.papergrid_layout.specs.Answers.{AreBothSized};
 ghost use Rattle.papergrid_config.specs.Grids.{spanned_grid};
 ghost use Rattle.papergrid_walk.specs.Measures.{line_measure};
-ghost use Rattle.papergrid_checks.specs.Entries.{entry_texts, lent_texts};
 
 use papergrid::config::spanned::SpannedConfig;
 use papergrid::dimension::iterable::IterGridDimension;
@@ -21,7 +20,8 @@ pub struct Entry {
 
 /// A row for each entry: its name and its note, lent.
 pub fn rows_of<'a>(alloc: Global, entries: &'a [Entry]) -> Result<Vec<Vec<&'a str>>, AllocError>
-    ensures { IfOk result (λ rows. map lent_texts rows.items ≡ map entry_texts entries.now) }
+    ensures { IfOk result (λ rows. map (λ row. map (λ text. text.now) row.items) rows.items
+        ≡ map (λ entry. string_bytes entry.name ∷ string_bytes entry.note ∷ []) entries.now) }
 {
     let mut rows = Vec::new(alloc);
     for entry in entries {
@@ -37,7 +37,7 @@ pub fn of_entries(
     config: &SpannedConfig,
 ) -> Result<(Vec<usize>, Vec<usize>), LayoutError>
     ensures { AreBothSized (spanned_grid config.now) (line_measure (λ text. text)) 2
-        (map entry_texts entries.now) result }
+        (map (λ entry. string_bytes entry.name ∷ string_bytes entry.note ∷ []) entries.now) result }
 {
     let rows = rows_of(alloc, entries)?;
     let mut dimension = IterGridDimension::new(alloc);

@@ -2,8 +2,12 @@
 
 ghost use Rattle.std.specs.Prelude.{◌≡◌, IfErr, List, OnErr, OnOk, ℕ};
 ghost use Rattle.std.specs.Io.KnownBytes.{Appends};
-ghost use Rattle.papergrid_checks.specs.Documents.{IsOfDocument, IsTableRefused};
+ghost use Rattle.papergrid_checks.specs.Documents.{IsOfDocument};
 ghost use Rattle.papergrid_checks.specs.Written.{AppendsBeginning};
+ghost use Rattle.papergrid_checks.specs.declared.documents.TableError.TheVariants.{Undrawn, Unread};
+ghost use Rattle.papergrid_draw.specs.declared.error.DrawError.{DrawError};
+ghost use Rattle.papergrid_grid.specs.Pictures.{IsRefusal};
+ghost use Rattle.papergrid_json.specs.declared.error.DocumentError.{DocumentError};
 
 use crate::documents::TableError;
 use papergrid::{Sink, Sizing};
@@ -14,7 +18,10 @@ use std::alloc::Global;
 pub fn json_table<W: Sink>(alloc: Global, text: &[u8], writer: &mut W) -> Result<(), TableError>
     ensures picture { OnOk result ((output : List ℕ) × IsOfDocument output
         × Appends (W.contents writer.old) (W.contents writer.new) output) }
-    ensures nothing { IfErr result (λ e. IsTableRefused e → writer.new ≡ writer.old) }
+    ensures unread { IfErr result (λ e. (error : DocumentError) →
+        e ≡ Unread error → writer.new ≡ writer.old) }
+    ensures undrawn { IfErr result (λ e. (error : DrawError) →
+        e ≡ Undrawn error → IsRefusal error → writer.new ≡ writer.old) }
     ensures beginning { OnErr result (AppendsBeginning IsOfDocument
         (W.contents writer.old) (W.contents writer.new)) }
 {

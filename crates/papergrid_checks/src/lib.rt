@@ -1,6 +1,6 @@
 //! Callers of the library, of CSV texts and of JSON documents, each proved: the examples of the documents stand here. What
 //! each says is shown by what the libraries say in public. And, in `tests`, what worked cases as data can't tell.
-//! All but two modules, whose types the definitions name, are read with the tests alone: so each caller is proved once.
+//! All of it is read with the tests alone, so that each caller is proved once.
 #![tactic(auto)]
 
 #[cfg(test)]
@@ -17,11 +17,13 @@ pub mod csv_rows;
 pub mod csv_tables;
 #[cfg(test)]
 pub mod dimensions;
+#[cfg(test)]
 pub mod documents;
 #[cfg(test)]
 pub mod drawn;
 #[cfg(test)]
 pub mod entities;
+#[cfg(test)]
 pub mod entries;
 #[cfg(test)]
 pub mod errors;

@@ -35,7 +35,7 @@ use Rattle.papergrid_walk.specs.Measures.{text_measure}
 use Rattle.papergrid_grid.specs.Cells.{lines_at, text_lines}
 use Rattle.papergrid_config.specs.Laws.{IsConfiguredBy}
 use Rattle.papergrid_grid.specs.Pictures.{IsDrawingBy, IsDrawingWith, IsFaultWith, IsPictureFault, IsRefusal, Undrawn, Unsized, texts_drawing}
-use Rattle.papergrid_grid.specs.ForProofs.Drawn.{Draws, IsSteady, IsUndrawn}
+use Rattle.papergrid_grid.specs.ForProofs.Drawn.{IsSteady, IsUndrawn, WritesPicture}
 use Rattle.papergrid_draw.specs.ForProofs.Sinks.{HasEnded}
 
 module _ {A : Type 0} (view : A → List ℕ) (config : SpannedConfig) (columns : ℕ) (cells : List (List A)) (texts : List (List (List ℕ)))
@@ -145,7 +145,7 @@ same-writer old new draw_errors.TooLarge named (inr (inr same)) = same
 module _ {W : Type 0} (contents : W → Option (List ℕ)) (has_failed has_stalled : W → Bool) (config : SpannedConfig) (columns : ℕ) (texts : List (List (List ℕ)))
     (sizing : Sizing) (text_of : Drawing → List ℕ) where
   abbrev AnswersSo : {A : Type 0} → W → W → Result A DrawError → Type 0
-  AnswersSo old new result = Draws contents has_failed has_stalled (IsDrawingWith columns texts sizing config) (IsFaultWith columns texts sizing config) text_of old new result
+  AnswersSo old new result = WritesPicture contents has_failed has_stalled (IsDrawingWith columns texts sizing config) (IsFaultWith columns texts sizing config) text_of old new result
 
   -- there are no sizes
   pub unsized : (w : W) (e : LayoutError) → UnlessMemoryError e (AreNoSizesBySizing config text_measure columns texts sizing e) →
@@ -208,7 +208,7 @@ module _ {W : Type 0} (contents : W → Option (List ℕ)) (has_failed has_stall
     (columns : ℕ) (texts : List (List (List ℕ))) (sizing : Sizing) where
   module _ {A : Type 0} (text_of : Drawing → List ℕ) (old new : W) where
     abbrev So : Result A DrawError → Type 0
-    So result = Draws contents has_failed has_stalled (IsDrawingWith columns texts sizing config) (IsFaultWith columns texts sizing config) text_of old new result
+    So result = WritesPicture contents has_failed has_stalled (IsDrawingWith columns texts sizing config) (IsFaultWith columns texts sizing config) text_of old new result
 
     pub draw-picture : (result : Result A DrawError) → So result →
         OnOk result ((d : Drawing) × IsDrawingBy columns texts sizing settings d × Appends (contents old) (contents new) (text_of d))

@@ -35,6 +35,6 @@ module _ {W : Type 0} (contents : W → Option (List ℕ)) (has_failed has_stall
       pub room : (p : Position) → e ≢ draw_errors.NoRoom p
 
     -- the text of such a drawing was written, or why it was not
-    abbrev pub Draws : {A : Type 0} → W → W → Result A DrawError → Type 0
-    Draws old new (Ok x) = (d : Drawing) × IsDrawn d × IsWritten old new (text_of d)
-    Draws old new (Err e) = IsUndrawn old new e
+    abbrev pub WritesPicture : {A : Type 0} → W → W → Result A DrawError → Type 0
+    WritesPicture old new (Ok x) = (d : Drawing) × IsDrawn d × IsWritten old new (text_of d)
+    WritesPicture old new (Err e) = IsUndrawn old new e

@@ -1,4 +1,4 @@
-use Rattle.std.proofs.Common.{◌≡◌, ◌∙◌, ℕ, List, map}
+use Rattle.std.proofs.Common.{◌≡◌, ◌∙◌, ◌∷◌, [], ℕ, List, map, string_bytes}
 use Rattle.std.specs.Prelude.{Vec}
 use Rattle.std.specs.Borrow.{Bor}
 use Rattle.std.specs.declared.alloc.Global.{Global}
@@ -9,9 +9,15 @@ use Rattle.papergrid_layout.specs.Answers.{UnlessMemoryError}
 use Rattle.papergrid_text.proofs.RowSteps.{told_by}
 use Rattle.papergrid_config.specs.Grids.{spanned_grid}
 use Rattle.papergrid_walk.specs.Measures.{line_measure}
-use Rattle.papergrid_checks.specs.Entries.{entry_texts, lent_texts}
+use Rattle.papergrid_checks.specs.declared.entries.Entry.{Entry}
 use Rattle.papergrid_checks.proofs.RowLemmas.{refused_on, sizes_told}
 use Rattle.papergrid_checks.proofs.entries.of_entries.Goals as goal
+
+abbrev entry_texts : Entry → List (List ℕ)
+entry_texts entry = string_bytes entry.name ∷ string_bytes entry.note ∷ []
+
+abbrev lent_texts : Vec (Bor (List ℕ)) Global → List (List ℕ)
+lent_texts row = map (λ text. text.now) row.items
 
 -- what is said of the cells of rows is said of cells with the texts that the rows lend
 of_lent_texts : (Holds : List (List (Bor (Bor (List ℕ)))) → Type 0) (rows : List (Vec (Bor (List ℕ)) Global)) (texts : List (List (List ℕ))) (e : LayoutError) → map lent_texts rows ≡ texts

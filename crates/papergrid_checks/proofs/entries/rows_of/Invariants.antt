@@ -1,6 +1,8 @@
-use Rattle.std.proofs.Common.{◌≡◌, take, map}
-use Rattle.papergrid_checks.specs.Entries.{entry_texts, lent_texts}
+use Rattle.std.proofs.Common.{◌≡◌, ◌∷◌, [], take, map, string_bytes}
+use Rattle.papergrid_checks.specs.declared.entries.Entry.{Entry}
 use Rattle.papergrid_checks.proofs.entries.rows_of.Given as goal
 
 abbrev pub invariant-loop-entry : goal.invariant-loop-entry
-invariant-loop-entry l = map lent_texts l.rows.items ≡ map entry_texts (take l.entry-index l.entries)
+invariant-loop-entry l =
+    map (λ row. map (λ text. text.now) row.items) l.rows.items
+    ≡ map (λ (entry : Entry). string_bytes entry.name ∷ string_bytes entry.note ∷ []) (take l.entry-index l.entries)
