@@ -1,7 +1,7 @@
 //! Tables drawn: of records by a list of settings, and of a script.
 
-ghost use Rattle.std.specs.Prelude.{◌≡◌, ◌≢◌, ◌⊎◌, ◌↔◌, ℕ, All, IfErr, IfOk, IfSome, IsErrOf, List, OnErr, OnOk, false, take, true};
-ghost use Rattle.std.specs.Io.KnownBytes.{Appends, Consumes, IsAtEnd};
+ghost use Rattle.std.specs.Prelude.{◌≡◌, ◌≢◌, ◌⊎◌, ◌↔◌, ℕ, All, IfErr, IfOk, IsErrOf, List, OnErr, OnOk, false, take, true};
+ghost use Rattle.std.specs.Io.KnownBytes.{Appends};
 ghost use Rattle.papergrid_values.specs.declared.position.Position.{Position};
 ghost use Rattle.papergrid_text.specs.HeldRows.{column_count};
 ghost use Rattle.papergrid_config.specs.Applied.{is_in_range};
@@ -126,11 +126,8 @@ pub fn run_table<S: Source, W: Sink>(
     requires reader { S.has_failed reader.old ≡ false }
     requires writer { W.has_failed writer.old ≡ false }
     // The vector holds what was read, to the end of the reader; it is all where the reader tells its bytes.
-    ensures kept { OnOk result (Consumes (S.remaining reader.old)
+    ensures kept { OnOk result (IsWholeInput (S.remaining reader.old)
         (S.remaining reader.new) input.new.items) }
-    ensures all_kept { OnOk result (IfSome (S.remaining reader.old) (λ left.
-        input.new.items ≡ left)) }
-    ensures end { OnOk result (IsAtEnd (S.remaining reader.new)) }
     // The picture that it tells was written, or why it has none, and nothing else.
     ensures written { IfOk result (λ end. (output : List ℕ)
         × IsPictureRun sizing input.new.items end output
@@ -154,11 +151,8 @@ pub fn run_table<S: Source, W: Sink>(
     ensures memory_works { IsErrOf result RunFault.Memory → W.has_failed writer.new ≡ false }
     ensures memory_moves { IsErrOf result RunFault.Memory →
         W.has_stalled writer.new ≡ W.has_stalled writer.old }
-    ensures write_kept { IsErrOf result RunFault.Write →
-        Consumes (S.remaining reader.old) (S.remaining reader.new) input.new.items }
-    ensures write_all_kept { IsErrOf result RunFault.Write →
-        IfSome (S.remaining reader.old) (λ left. input.new.items ≡ left) }
-    ensures write_end { IsErrOf result RunFault.Write → IsAtEnd (S.remaining reader.new) }
+    ensures write_kept { IsErrOf result RunFault.Write → IsWholeInput (S.remaining reader.old)
+        (S.remaining reader.new) input.new.items }
     ensures beginning { OnErr result ((writer.new ≡ writer.old)
         ⊎ ((end : RunEnd) × ((output : List ℕ) × IsPictureRun sizing input.new.items end output
         × ((n : ℕ) × Appends (W.contents writer.old) (W.contents writer.new)

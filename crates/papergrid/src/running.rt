@@ -1,7 +1,7 @@
 //! The whole run: read to the end, judge, write.
 
 ghost use Rattle.std.specs.Prelude.{◌≡◌, ◌⊎◌, ℕ, take, true, false, IfOk, IfSome, OnOk, IsErrOf};
-ghost use Rattle.std.specs.Io.KnownBytes.{Appends, Consumes, IsAtEnd};
+ghost use Rattle.std.specs.Io.KnownBytes.{Appends, IsAtEnd};
 ghost use Rattle.papergrid_script.specs.Outputs.{end_by, output_by, output_of, run_end_of};
 ghost use Rattle.papergrid.specs.Runs.{IsBrokenRun, IsWholeRun};
 ghost use Rattle.papergrid_script.specs.Inputs.{IsWholeInput};
@@ -86,11 +86,8 @@ pub fn run_keeping<S: Source, W: Sink>(
     requires reader { S.has_failed reader.old ≡ false }
     requires writer { W.has_failed writer.old ≡ false }
     // The vector holds what was read, to the end of the reader; it is all where the reader tells its bytes.
-    ensures kept { OnOk result (Consumes (S.remaining reader.old)
+    ensures kept { OnOk result (IsWholeInput (S.remaining reader.old)
         (S.remaining reader.new) input.new.items) }
-    ensures all_kept { OnOk result (IfSome (S.remaining reader.old) (λ left.
-        input.new.items ≡ left)) }
-    ensures end { OnOk result (IsAtEnd (S.remaining reader.new)) }
     // What that means was written and nothing else.
     ensures written { OnOk result (Appends (W.contents writer.old) (W.contents writer.new)
         (output_by sizing input.new.items)) }
@@ -115,11 +112,8 @@ pub fn run_keeping<S: Source, W: Sink>(
     ensures beginning { IsErrOf result RunFault.Write →
         (n : ℕ) × Appends (W.contents writer.old) (W.contents writer.new)
         (take n (output_by sizing input.new.items)) }
-    ensures write_kept { IsErrOf result RunFault.Write →
-        Consumes (S.remaining reader.old) (S.remaining reader.new) input.new.items }
-    ensures write_all_kept { IsErrOf result RunFault.Write →
-        IfSome (S.remaining reader.old) (λ left. input.new.items ≡ left) }
-    ensures write_end { IsErrOf result RunFault.Write → IsAtEnd (S.remaining reader.new) }
+    ensures write_kept { IsErrOf result RunFault.Write → IsWholeInput (S.remaining reader.old)
+        (S.remaining reader.new) input.new.items }
 {
     *input = read_all(alloc, reader)?;
     let (end, output) = answer(alloc, sizing, input.as_slice())?;

@@ -10,7 +10,7 @@ use Rattle.papergrid_values.specs.declared.formatting.Formatting.{Formatting}
 use Rattle.papergrid_values.specs.declared.indent.Indent.{Indent}
 use Rattle.papergrid_values.specs.declared.position.Position.{Position}
 use Rattle.papergrid_values.specs.declared.sides.Sides.{Sides}
-use Rattle.papergrid_maps.specs.Compact.{all_sides, spaces}
+use Rattle.papergrid_values.specs.Compact.{all_sides, spaces}
 use Rattle.papergrid_maps.specs.MapCalls.{effective_value}
 use Rattle.papergrid_config.specs.Parts.{padding_calls, padding_color_calls, trim_horizontal_calls, trim_vertical_calls, line_alignment_calls, alignment_horizontal_calls, alignment_vertical_calls, justification_calls, justification_color_calls}
 use Rattle.papergrid_config.specs.History.{HasSettingHistory}

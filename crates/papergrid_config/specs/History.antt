@@ -7,7 +7,7 @@ use Rattle.papergrid_values.specs.declared.offset.Offset.TheVariants.{Start}
 use Rattle.papergrid_values.specs.History as told
 use Rattle.papergrid_tables.specs.StoredBorders as lines
 use Rattle.papergrid_tables.specs.Overrides as overrides
-use Rattle.papergrid_maps.specs.Compact.{all_sides, spaces}
+use Rattle.papergrid_values.specs.Compact.{all_sides, spaces}
 use Rattle.papergrid_maps.specs.StoredMap as map
 use Rattle.papergrid_maps.specs.Spans as spans
 use Rattle.papergrid_config.specs.Parts.{padding_calls, padding_color_calls, trim_horizontal_calls, trim_vertical_calls, line_alignment_calls, alignment_horizontal_calls, alignment_vertical_calls, justification_calls, justification_color_calls, character_calls, color_calls, horizontal_char_calls, vertical_char_calls, horizontal_color_calls, vertical_color_calls, span_calls, margins, margin_colors, margin_offsets, missing_characters}

@@ -11,7 +11,7 @@ use Rattle.papergrid_tables.specs.Made.{borders_made}
 use Rattle.papergrid_tables.specs.BorderParts.{BorderParts, parts_from}
 use Rattle.papergrid_maps.specs.Made.{spans_made}
 use Rattle.papergrid_maps.specs.Spans.{Spans}
-use Rattle.papergrid_maps.specs.declared.compact.CompactConfig.{CompactConfig}
+use Rattle.papergrid_values.specs.declared.compact.CompactConfig.{CompactConfig}
 use Rattle.papergrid_config.specs.Parts.{character_calls, span_calls}
 use Rattle.papergrid_config.specs.declared.setting.Setting.{Setting}
 use Rattle.papergrid_config.specs.declared.setting.Setting.TheVariants.{SetPadding, SetPaddingColor, SetAlignmentHorizontal, SetMargin, SetMarginColor, SetBorders, SetBordersColor}

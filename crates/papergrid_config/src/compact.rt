@@ -6,8 +6,7 @@ ghost use Rattle.papergrid_config.specs.Made.{colored_frame, colored_sides, comp
 ghost use Rattle.papergrid_config.specs.History.{HasSettingHistory};
 
 use crate::spanned::SpannedConfig;
-use papergrid_maps::CompactConfig;
-use papergrid_values::{ANSIBuf, ANSIStr, Borders, Entity, Sides};
+use papergrid_values::{ANSIBuf, ANSIStr, Borders, CompactConfig, Entity, Sides};
 use std::alloc::{AllocError, Global};
 
 impl SpannedConfig {

@@ -15,6 +15,7 @@ pub mod spanned;
 mod spans;
 mod view;
 
-pub use papergrid_maps::{Colors, CompactConfig, EntityMap, MapCall, NoColor, NoColors, Stopped};
+pub use papergrid_maps::{EntityMap, MapCall, Stopped};
+pub use papergrid_values::{Colors, CompactConfig, NoColor, NoColors};
 pub use setting::Setting;
 pub use spanned::SpannedConfig;

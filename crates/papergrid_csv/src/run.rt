@@ -1,7 +1,7 @@
 //! The run of a CSV text: read to the end, judge, draw.
 
-ghost use Rattle.std.specs.Prelude.{◌≡◌, ◌≢◌, ◌⊎◌, ℕ, All, IfErr, IfOk, IfSome, IsErrOf, List, MatchBool, MatchOption, OnErr, OnOk, false, length, map, take, true};
-ghost use Rattle.std.specs.Io.KnownBytes.{Appends, Consumes, IsAtEnd};
+ghost use Rattle.std.specs.Prelude.{◌≡◌, ◌≢◌, ◌⊎◌, ℕ, All, IfErr, IfOk, IsErrOf, List, MatchBool, MatchOption, OnErr, OnOk, false, length, map, take, true};
+ghost use Rattle.std.specs.Io.KnownBytes.{Appends};
 ghost use Rattle.papergrid_config.specs.Applied.{is_in_range};
 ghost use Rattle.papergrid_config.specs.History.{AppendsSettings};
 ghost use Rattle.papergrid_config.specs.declared.setting.Setting.{Setting};
@@ -75,11 +75,8 @@ pub fn run_csv<S: Source, W: Sink>(
     requires reader { S.has_failed reader.old ≡ false }
     requires writer { W.has_failed writer.old ≡ false }
     // The vector holds what was read, to the end of the reader; it is all where the reader tells its bytes.
-    ensures kept { OnOk result (Consumes (S.remaining reader.old)
+    ensures kept { OnOk result (IsWholeInput (S.remaining reader.old)
         (S.remaining reader.new) input.new.items) }
-    ensures all_kept { OnOk result (IfSome (S.remaining reader.old) (λ left.
-        input.new.items ≡ left)) }
-    ensures end { OnOk result (IsAtEnd (S.remaining reader.new)) }
     // The picture of its table was written, or nothing where it has none.
     ensures written { IfOk result (λ end. (output : List ℕ)
         × IsCsvRun request.now input.new.items end output
@@ -103,11 +100,8 @@ pub fn run_csv<S: Source, W: Sink>(
     ensures memory_works { IsErrOf result RunFault.Memory → W.has_failed writer.new ≡ false }
     ensures memory_moves { IsErrOf result RunFault.Memory →
         W.has_stalled writer.new ≡ W.has_stalled writer.old }
-    ensures write_kept { IsErrOf result RunFault.Write →
-        Consumes (S.remaining reader.old) (S.remaining reader.new) input.new.items }
-    ensures write_all_kept { IsErrOf result RunFault.Write →
-        IfSome (S.remaining reader.old) (λ left. input.new.items ≡ left) }
-    ensures write_end { IsErrOf result RunFault.Write → IsAtEnd (S.remaining reader.new) }
+    ensures write_kept { IsErrOf result RunFault.Write → IsWholeInput (S.remaining reader.old)
+        (S.remaining reader.new) input.new.items }
     ensures beginning { OnErr result ((writer.new ≡ writer.old)
         ⊎ ((output : List ℕ) × IsCsvRun request.now input.new.items Drawn output
         × ((n : ℕ) × Appends (W.contents writer.old) (W.contents writer.new)

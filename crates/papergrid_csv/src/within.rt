@@ -1,7 +1,7 @@
 //! The run of a CSV text whose fields are cut so that its table is no wider than it may be.
 
-ghost use Rattle.std.specs.Prelude.{◌≡◌, ◌⊎◌, ◌↔◌, ℕ, IfOk, IfSome, IsErrOf, IsTrue, List, OnErr, OnOk, false, take, true};
-ghost use Rattle.std.specs.Io.KnownBytes.{Appends, Consumes, IsAtEnd};
+ghost use Rattle.std.specs.Prelude.{◌≡◌, ◌⊎◌, ◌↔◌, ℕ, IfOk, IsErrOf, IsTrue, List, OnErr, OnOk, false, take, true};
+ghost use Rattle.std.specs.Io.KnownBytes.{Appends};
 ghost use Rattle.papergrid_script.specs.Inputs.{IsWholeInput};
 ghost use Rattle.papergrid_csv.specs.Rows.{held_texts};
 ghost use Rattle.papergrid_csv.specs.Within.{IsRunWithin, cut_request};
@@ -38,11 +38,8 @@ pub fn run_csv_within<S: Source, W: Sink>(
     requires reader { S.has_failed reader.old ≡ false }
     requires writer { W.has_failed writer.old ≡ false }
     // The vector holds what was read, to the end of the reader; it is all where the reader tells its bytes.
-    ensures kept { OnOk result (Consumes (S.remaining reader.old)
+    ensures kept { OnOk result (IsWholeInput (S.remaining reader.old)
         (S.remaining reader.new) input.new.items) }
-    ensures all_kept { OnOk result (IfSome (S.remaining reader.old) (λ left.
-        input.new.items ≡ left)) }
-    ensures end { OnOk result (IsAtEnd (S.remaining reader.new)) }
     // The picture of its table, with fields cut as the request says now, was written, or nothing where it has none.
     ensures written { IfOk result (λ end. (output : List ℕ)
         × IsRunWithin request.old width input.new.items request.new.cut end output
@@ -70,11 +67,8 @@ pub fn run_csv_within<S: Source, W: Sink>(
     ensures memory_works { IsErrOf result RunFault.Memory → W.has_failed writer.new ≡ false }
     ensures memory_moves { IsErrOf result RunFault.Memory →
         W.has_stalled writer.new ≡ W.has_stalled writer.old }
-    ensures write_kept { IsErrOf result RunFault.Write →
-        Consumes (S.remaining reader.old) (S.remaining reader.new) input.new.items }
-    ensures write_all_kept { IsErrOf result RunFault.Write →
-        IfSome (S.remaining reader.old) (λ left. input.new.items ≡ left) }
-    ensures write_end { IsErrOf result RunFault.Write → IsAtEnd (S.remaining reader.new) }
+    ensures write_kept { IsErrOf result RunFault.Write → IsWholeInput (S.remaining reader.old)
+        (S.remaining reader.new) input.new.items }
     ensures beginning { OnErr result ((writer.new ≡ writer.old)
         ⊎ ((output : List ℕ)
         × IsRunWithin request.old width input.new.items request.new.cut Drawn output

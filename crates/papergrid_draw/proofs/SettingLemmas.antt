@@ -25,7 +25,7 @@ use Rattle.papergrid_tables.specs.BorderParts.{BorderParts, crossing_part, found
 use Rattle.papergrid_tables.specs.Overrides as overrides
 use Rattle.papergrid_tables.specs.Overrides.{OffsetCall, found_override, is_same_offset, override_at, overrides_from}
 use Rattle.papergrid_tables.specs.StoredBorders.{parts_of_borders}
-use Rattle.papergrid_maps.specs.Compact.{all_sides, spaces}
+use Rattle.papergrid_values.specs.Compact.{all_sides, spaces}
 use Rattle.papergrid_maps.specs.Keys.{entity_eq}
 use Rattle.papergrid_maps.specs.MapCalls.{cell_override_value, global_value, standing_value}
 use Rattle.papergrid_maps.specs.StoredMap.{HasMapHistory, Stored, stored_value}

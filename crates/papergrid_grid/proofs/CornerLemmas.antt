@@ -13,7 +13,7 @@ use Rattle.papergrid_values.specs.MapKeys.{position_eq}
 use Rattle.papergrid_values.specs.declared.alignment.AlignmentHorizontal.TheVariants.{Left}
 use Rattle.papergrid_values.specs.declared.alignment.AlignmentVertical.TheVariants.{Top}
 use Rattle.papergrid_values.specs.declared.offset.Offset.TheVariants.{Start}
-use Rattle.papergrid_maps.specs.Compact.{all_sides, spaces}
+use Rattle.papergrid_values.specs.Compact.{all_sides, spaces}
 use Rattle.papergrid_values.specs.Positions.{along}
 use Rattle.papergrid_values.specs.declared.direction.Direction.{Direction}
 use Rattle.papergrid_values.specs.declared.direction.Direction.TheVariants.{Columns, Rows}

@@ -3,7 +3,7 @@ use Rattle.std.specs.Prelude.{◌≡◌, ◌≢◌, ◌≤◌, ◌+◌, ◌^◌,
 use Rattle.std.specs.Str.Lines.{lines as std_lines}
 use Rattle.papergrid_values.specs.declared.position.Position.{Position}
 use Rattle.papergrid_text.specs.Text.{with_width}
-use Rattle.papergrid_maps.specs.declared.compact.CompactConfig.{CompactConfig}
+use Rattle.papergrid_values.specs.declared.compact.CompactConfig.{CompactConfig}
 use Rattle.papergrid_config.specs.History.{HasSettingHistory}
 use Rattle.papergrid_config.specs.Made.{compact_settings}
 use Rattle.papergrid_config.specs.declared.spanned.SpannedConfig.{SpannedConfig}

@@ -8,10 +8,9 @@ ghost use Rattle.papergrid_grid.specs.Cells.{lines_at, text_lines};
 
 use crate::color::AsANSIStr;
 use papergrid_draw::source::Cells;
-use papergrid_maps::Colors;
 use papergrid_text::string::get_text_dimension;
 use papergrid_text::{Cell, Text};
-use papergrid_values::{ANSIStr, Position};
+use papergrid_values::{ANSIStr, Colors, Position};
 use std::alloc::{AllocError, Global};
 use std::convert::AsStr;
 

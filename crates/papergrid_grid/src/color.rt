@@ -3,8 +3,7 @@
 ghost use Rattle.std.specs.Prelude.{◌≡◌, ℕ, List, []};
 ghost use Rattle.papergrid_values.specs.Colors.{texts_of};
 
-use papergrid_maps::NoColor;
-use papergrid_values::{ANSIBuf, ANSIStr};
+use papergrid_values::{ANSIBuf, ANSIStr, NoColor};
 
 /// A colour that lends the text before what is coloured, and the one after it.
 pub trait AsANSIStr {

@@ -4,7 +4,7 @@
 ghost use Rattle.std.specs.Prelude.{◌≡◌, ℕ, List, Option, length, map};
 ghost use Rattle.papergrid_values.specs.declared.position.Position.{Position};
 ghost use Rattle.papergrid_text.specs.Measured.{measured_text};
-ghost use Rattle.papergrid_maps.specs.declared.compact.CompactConfig.{CompactConfig};
+ghost use Rattle.papergrid_values.specs.declared.compact.CompactConfig.{CompactConfig};
 ghost use Rattle.papergrid_draw.specs.Drawings.{Drawing};
 ghost use Rattle.papergrid_layout.specs.Tables.{TableParts};
 ghost use Rattle.papergrid_grid.specs.Cells.{text_lines};

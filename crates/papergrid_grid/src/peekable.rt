@@ -18,8 +18,8 @@ use papergrid_config::SpannedConfig;
 use papergrid_draw::DrawError;
 use papergrid_draw::transfer::Sink;
 use papergrid_layout::Dimension;
-use papergrid_maps::Colors;
 use papergrid_text::{Cell, ExactRecords, Records, VecRecords};
+use papergrid_values::Colors;
 use std::alloc::{AllocError, Global};
 use std::fmt;
 

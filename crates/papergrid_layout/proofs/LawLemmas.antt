@@ -26,7 +26,7 @@ use Rattle.papergrid_maps.proofs.MadeTables.{span_history}
 use Rattle.papergrid_maps.proofs.StoredMapLemmas.{stored_effective}
 use Rattle.papergrid_config.specs.Parts.{character_calls, padding_calls, span_calls}
 use Rattle.papergrid_config.specs.History.{HasSettingHistory}
-use Rattle.papergrid_maps.specs.Compact.{all_sides, spaces}
+use Rattle.papergrid_values.specs.Compact.{all_sides, spaces}
 use Rattle.papergrid_config.specs.declared.setting.Setting.{Setting}
 use Rattle.papergrid_config.specs.declared.spanned.SpannedConfig.{SpannedConfig}
 use Rattle.papergrid_walk.specs.Cells.{demands_by, demands_of, placed_from, placed_row, side}

@@ -3,7 +3,7 @@ use Rattle.std.specs.Prelude.{ℕ, Bool, true, false}
 use Rattle.papergrid_values.specs.declared.position.Position.{Position}
 use Rattle.papergrid_values.specs.declared.sides.Sides.{Sides}
 use Rattle.papergrid_values.specs.declared.indent.Indent.{Indent}
-use Rattle.papergrid_maps.specs.declared.compact.CompactConfig.{CompactConfig}
+use Rattle.papergrid_values.specs.declared.compact.CompactConfig.{CompactConfig}
 use Rattle.papergrid_values.specs.declared.direction.Direction.{Direction}
 use Rattle.papergrid_values.specs.declared.direction.Direction.TheVariants.{Columns, Rows}
 

@@ -1,6 +1,5 @@
 pub mod Anchors
 pub mod StoredColors
-pub mod Compact
 pub mod Grids
 pub mod Hidden
 pub mod EffectiveSpan

@@ -1,7 +1,6 @@
 //! Laws over the definitions that the contracts cite.
 
-ghost use Rattle.std.specs.Prelude.{◌≡◌, ◌↔◌, ◌∷◌, ◌++◌, [], ℕ, IsTrue, List, None, true};
-ghost use Rattle.std.specs.List.{list_all};
+ghost use Rattle.std.specs.Prelude.{◌≡◌, ◌↔◌, ℕ, IsTrue, List, true};
 ghost use Rattle.papergrid_values.specs.declared.direction.Direction.{Direction};
 ghost use Rattle.papergrid_values.specs.declared.position.Position.{Position};
 ghost use Rattle.papergrid_maps.specs.Anchors.{AreAnchors};
@@ -10,10 +9,6 @@ ghost use Rattle.papergrid_maps.specs.declared.anchors.Anchor.{Anchor};
 ghost use Rattle.papergrid_maps.specs.declared.entity_map.MapCall.{MapCall};
 ghost use Rattle.papergrid_maps.specs.declared.entity_map.Stopped.{Stopped};
 ghost use Rattle.papergrid_maps.specs.declared.view.Paddings.{Paddings};
-ghost use Rattle.papergrid_maps.specs.Compact.{IsNew, first_difference};
-ghost use Rattle.papergrid_maps.specs.declared.colors.NoColor.{NoColor};
-ghost use Rattle.papergrid_maps.specs.declared.colors.NoColors.{NoColors};
-ghost use Rattle.papergrid_maps.specs.declared.compact.CompactConfig.{CompactConfig};
 ghost use Rattle.papergrid_maps.specs.EffectiveSpan.{IsEffectiveSpan};
 ghost use Rattle.papergrid_maps.specs.StoredSame.{HoldTheSameSpans, HoldTheSameValues};
 ghost use Rattle.papergrid_maps.specs.Made.{spans_made};
@@ -22,13 +17,7 @@ ghost use Rattle.papergrid_maps.specs.StoredMap.{Stored, HasMapHistory, stored_v
 ghost use Rattle.papergrid_maps.specs.Spans as spans;
 ghost use Rattle.papergrid_maps.specs.Spans.{IsVisible, SpanCall, Spans, effective_span, is_visible, span_along};
 
-use crate::{
-    Anchor, Colors, CompactConfig, EntityMap, MapCall, NoColor, NoColors, Paddings, SpanTable,
-    Stopped,
-};
-use papergrid_values::{ANSIStr, AlignmentHorizontal, Borders, Indent, Sides};
-use std::cmp::Ordering;
-use std::hash::Hash;
+use crate::{Anchor, EntityMap, MapCall, Paddings, SpanTable, Stopped};
 
 /// A map that was made with a value and has the calls as its history has at each position the
 /// value that they decide.
@@ -108,59 +97,4 @@ pub fn equal_clones<T: Clone>()
     ensures anchors { (x y : Anchor) → ⟦<Anchor as Clone>⟧.is_clone x y → y ≡ x }
     ensures stopped { (x y : Stopped) → ⟦<Stopped as Clone>⟧.is_clone x y → y ≡ x }
     ensures paddings { (x y : Paddings) → ⟦<Paddings as Clone>⟧.is_clone x y → y ≡ x }
-{}
-
-/// Colours that are empty have none at any position.
-pub fn empty_colors<C: Colors>()
-    ensures { (colors : C) (position : Position) → C.is_blank colors →
-        C.color_at colors position ≡ None }
-{}
-
-/// Compact configurations are ordered by the first field that differs, in this order: the frame,
-/// its colours, the margin, its colours, the padding, its colours, the alignment. They are equal
-/// where each field is, hash their fields in this order, and equal their clones.
-pub fn compact_by_fields()
-    ensures ordered { (x y : CompactConfig) →
-        ⟦<CompactConfig as Ord>⟧.cmp x y ≡ first_difference (
-        ⟦<Borders<char> as Ord>⟧.cmp x.borders y.borders
-        ∷ ⟦<Borders<ANSIStr<'static>> as Ord>⟧.cmp x.border_colors y.border_colors
-        ∷ ⟦<Sides<Indent> as Ord>⟧.cmp x.margin y.margin
-        ∷ ⟦<Sides<ANSIStr<'static>> as Ord>⟧.cmp x.margin_color y.margin_color
-        ∷ ⟦<Sides<Indent> as Ord>⟧.cmp x.padding y.padding
-        ∷ ⟦<Sides<ANSIStr<'static>> as Ord>⟧.cmp x.padding_color y.padding_color
-        ∷ ⟦<AlignmentHorizontal as Ord>⟧.cmp x.alignment y.alignment ∷ []) }
-    ensures equal { (x y : CompactConfig) →
-        ⟦<CompactConfig as PartialEq>⟧.eq x y ≡ list_all (λ same. same) (
-        ⟦<Borders<char> as PartialEq>⟧.eq x.borders y.borders
-        ∷ ⟦<Borders<ANSIStr<'static>> as PartialEq>⟧.eq x.border_colors y.border_colors
-        ∷ ⟦<Sides<Indent> as PartialEq>⟧.eq x.margin y.margin
-        ∷ ⟦<Sides<ANSIStr<'static>> as PartialEq>⟧.eq x.margin_color y.margin_color
-        ∷ ⟦<Sides<Indent> as PartialEq>⟧.eq x.padding y.padding
-        ∷ ⟦<Sides<ANSIStr<'static>> as PartialEq>⟧.eq x.padding_color y.padding_color
-        ∷ ⟦<AlignmentHorizontal as PartialEq>⟧.eq x.alignment y.alignment ∷ []) }
-    ensures hashed { (x : CompactConfig) →
-        ⟦<CompactConfig as Hash>⟧.hash_input x
-        ≡ ⟦<Borders<char> as Hash>⟧.hash_input x.borders
-        ++ ⟦<Borders<ANSIStr<'static>> as Hash>⟧.hash_input x.border_colors
-        ++ ⟦<Sides<Indent> as Hash>⟧.hash_input x.margin
-        ++ ⟦<Sides<ANSIStr<'static>> as Hash>⟧.hash_input x.margin_color
-        ++ ⟦<Sides<Indent> as Hash>⟧.hash_input x.padding
-        ++ ⟦<Sides<ANSIStr<'static>> as Hash>⟧.hash_input x.padding_color
-        ++ ⟦<AlignmentHorizontal as Hash>⟧.hash_input x.alignment }
-    ensures cloned { (x y : CompactConfig) → ⟦<CompactConfig as Clone>⟧.is_clone x y → y ≡ x }
-{}
-
-/// The default of a compact configuration is a new one.
-pub fn plain_default()
-    ensures { (x : CompactConfig) → ⟦<CompactConfig as Default>⟧.is_default x → IsNew x }
-{}
-
-/// There is one value of no colour, and one of no colours: each equals itself, and hashes nothing.
-pub fn one_value_each()
-    ensures no_color { (x y : NoColor) → ⟦<NoColor as PartialEq>⟧.eq x y ≡ true }
-    ensures no_color_ordered { (x y : NoColor) → ⟦<NoColor as Ord>⟧.cmp x y ≡ Ordering.Equal }
-    ensures no_color_hashed { (x : NoColor) → ⟦<NoColor as Hash>⟧.hash_input x ≡ [] }
-    ensures no_colors { (x y : NoColors) → ⟦<NoColors as PartialEq>⟧.eq x y ≡ true }
-    ensures no_colors_ordered { (x y : NoColors) → ⟦<NoColors as Ord>⟧.cmp x y ≡ Ordering.Equal }
-    ensures no_colors_hashed { (x : NoColors) → ⟦<NoColors as Hash>⟧.hash_input x ≡ [] }
 {}

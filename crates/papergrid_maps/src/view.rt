@@ -10,8 +10,8 @@ ghost use Rattle.papergrid_maps.specs.Listed.{AreSetCells};
 ghost use Rattle.papergrid_maps.specs.Paddings.{AreCommon, AreEffective, for_all_cells, sizes};
 ghost use Rattle.papergrid_maps.specs.declared.view.Paddings.{Paddings};
 
-use crate::{Anchor, CompactConfig};
-use papergrid_values::{Direction, Entity, Indent, Position, Sides};
+use crate::Anchor;
+use papergrid_values::{CompactConfig, Direction, Entity, Indent, Position, Sides};
 use std::alloc::{AllocError, Global};
 
 /// The paddings left and right of a cell's text, above and below it.

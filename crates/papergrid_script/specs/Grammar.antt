@@ -3,7 +3,7 @@ use Rattle.std.specs.Prelude.{ℕ, ◌-◌, ◌^◌, ◌&&◌, List, [], ◌∷�
 use Rattle.std.specs.List.{slice_split, starts_with, before_first, after_first, position_or_len}
 use Rattle.std.specs.Str.{chars, is_utf8, all_ascii_digits}
 use Rattle.std.specs.Str.Parse.{digits_value}
-use Rattle.papergrid_maps.specs.Compact.{spaces}
+use Rattle.papergrid_values.specs.Compact.{spaces}
 use Rattle.papergrid_values.specs.declared.entity.Entity.{Entity}
 use Rattle.papergrid_values.specs.declared.entity.Entity.TheVariants as entities
 use Rattle.papergrid_values.specs.declared.indent.Indent.{Indent}

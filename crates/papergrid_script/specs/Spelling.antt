@@ -11,7 +11,7 @@ use Rattle.papergrid_values.specs.declared.sides.Sides.{Sides}
 use Rattle.papergrid_values.specs.Borders.{frame_with}
 use Rattle.papergrid_config.specs.declared.setting.Setting.{Setting}
 use Rattle.papergrid_config.specs.declared.setting.Setting.TheVariants.{SetPadding, SetColumnSpan, SetRowSpan, SetBorders, InsertVerticalLine, InsertHorizontalLine, RemoveVerticalLine, RemoveHorizontalLine}
-use Rattle.papergrid_maps.specs.Compact.{spaces}
+use Rattle.papergrid_values.specs.Compact.{spaces}
 use Rattle.papergrid_script.specs.Grammar.{Said, Nothing, Columns, Set, Row, Cell, space, comma, vertical_main, horizontal_main}
 use Rattle.papergrid_script.specs.Texts.{newline, backslash}
 

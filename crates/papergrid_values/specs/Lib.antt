@@ -1,5 +1,6 @@
 pub mod Borders
 pub mod Colors
+pub mod Compact
 pub mod Entities
 pub mod Equal
 pub mod Folds

@@ -3,7 +3,7 @@
 ghost use Rattle.std.specs.Prelude.{◌≡◌, ◌<◌, ◌≤◌, ◌⊎◌, ◌↔◌, [], ◌∷◌, ◌++◌, ℕ, All, AllPairs, None, false, pos, true};
 ghost use Rattle.std.specs.Cmp.Lexicographic.{slice_cmp, pointwise};
 ghost use Rattle.std.specs.Hash as fed;
-ghost use Rattle.std.specs.List.{flat_map};
+ghost use Rattle.std.specs.List.{flat_map, list_all};
 ghost use Rattle.std.specs.Option.{option_cmp, option_eq};
 ghost use Rattle.std.specs.Ordering.{nat_cmp};
 ghost use Rattle.papergrid_values.specs.declared.entity.Entity.TheVariants.{Global};
@@ -17,6 +17,9 @@ ghost use Rattle.papergrid_values.specs.declared.borders.Borders.{Borders};
 ghost use Rattle.papergrid_values.specs.declared.horizontal_line.HorizontalLine.{HorizontalLine};
 ghost use Rattle.papergrid_values.specs.declared.sides.Sides.{Sides};
 ghost use Rattle.papergrid_values.specs.declared.vertical_line.VerticalLine.{VerticalLine};
+ghost use Rattle.papergrid_values.specs.declared.colors.NoColor.{NoColor};
+ghost use Rattle.papergrid_values.specs.declared.colors.NoColors.{NoColors};
+ghost use Rattle.papergrid_values.specs.declared.compact.CompactConfig.{CompactConfig};
 ghost use Rattle.papergrid_values.specs.declared.direction.Direction.{Direction};
 ghost use Rattle.papergrid_values.specs.declared.entity.Entity.{Entity};
 ghost use Rattle.papergrid_values.specs.declared.entity_iterator.EntityIterator.{EntityIterator};
@@ -28,15 +31,16 @@ ghost use Rattle.papergrid_values.specs.Borders.{border_parts, border_with, fram
 ghost use Rattle.papergrid_values.specs.Entities.{positions};
 ghost use Rattle.papergrid_values.specs.Lines.{horizontal_parts, horizontal_with, vertical_parts, vertical_with};
 ghost use Rattle.papergrid_values.specs.Colors.{texts_of, texts_cmp};
+ghost use Rattle.papergrid_values.specs.Compact.{IsNew, first_difference};
 ghost use Rattle.papergrid_values.specs.Keys.{sides_parts, formatting_flags};
 ghost use Rattle.papergrid_values.specs.Keys.{entity_key, offset_key, horizontal_rank, vertical_rank};
 ghost use Rattle.papergrid_values.specs.Writes.{key_fed, texts_fed};
 ghost use Rattle.papergrid_values.specs.Positions.{IsBefore, count_of};
 
 use crate::{
-    ANSIBuf, ANSIFmt, ANSIStr, AlignmentHorizontal, AlignmentVertical, Border, Borders, Direction,
-    Entity, EntityIterator, Formatting, HorizontalLine, Indent, Offset, PerDirection, Position,
-    Sides, VerticalLine,
+    ANSIBuf, ANSIFmt, ANSIStr, AlignmentHorizontal, AlignmentVertical, Border, Borders, Colors,
+    CompactConfig, Direction, Entity, EntityIterator, Formatting, HorizontalLine, Indent, NoColor,
+    NoColors, Offset, PerDirection, Position, Sides, VerticalLine,
 };
 use std::cmp::Ordering;
 use std::hash::Hash;
@@ -192,7 +196,7 @@ pub fn hashed_by_fields()
 {}
 
 /// The default is the plain value: the first position, no room, no flag, no text, no part set, and
-/// four sides that are each the default of their type.
+/// four sides that are each the default of their type. That of a compact configuration is a new one.
 pub fn plain_defaults<T: Default>()
     ensures positions { (p : Position) →
         ⟦<Position as Default>⟧.is_default p → p ≡ record { row = 0; col = 0 } }
@@ -212,10 +216,61 @@ pub fn plain_defaults<T: Default>()
         ⟦<HorizontalLine<T> as Default>⟧.is_default x → x ≡ horizontal_with None }
     ensures vertical_lines { (x : VerticalLine T) →
         ⟦<VerticalLine<T> as Default>⟧.is_default x → x ≡ vertical_with None }
+    ensures compact { (x : CompactConfig) → ⟦<CompactConfig as Default>⟧.is_default x → IsNew x }
 {}
 
 /// A reference to a colour tells the texts that the colour tells, and is held to them as it is.
 pub fn colors_by_reference<C: ANSIFmt>()
     ensures prefix { (x : _) → ⟦<&'static C as ANSIFmt>⟧.prefix_text x ≡ C.prefix_text x.now }
     ensures suffix { (x : _) → ⟦<&'static C as ANSIFmt>⟧.suffix_text x ≡ C.suffix_text x.now }
+{}
+
+/// Colours that are empty have none at any position.
+pub fn empty_colors<C: Colors>()
+    ensures { (colors : C) (position : Position) → C.is_blank colors →
+        C.color_at colors position ≡ None }
+{}
+
+/// Compact configurations are ordered by the first field that differs, in this order: the frame,
+/// its colours, the margin, its colours, the padding, its colours, the alignment. They are equal
+/// where each field is, hash their fields in this order, and equal their clones.
+pub fn compact_by_fields()
+    ensures ordered { (x y : CompactConfig) →
+        ⟦<CompactConfig as Ord>⟧.cmp x y ≡ first_difference (
+        ⟦<Borders<char> as Ord>⟧.cmp x.borders y.borders
+        ∷ ⟦<Borders<ANSIStr<'static>> as Ord>⟧.cmp x.border_colors y.border_colors
+        ∷ ⟦<Sides<Indent> as Ord>⟧.cmp x.margin y.margin
+        ∷ ⟦<Sides<ANSIStr<'static>> as Ord>⟧.cmp x.margin_color y.margin_color
+        ∷ ⟦<Sides<Indent> as Ord>⟧.cmp x.padding y.padding
+        ∷ ⟦<Sides<ANSIStr<'static>> as Ord>⟧.cmp x.padding_color y.padding_color
+        ∷ ⟦<AlignmentHorizontal as Ord>⟧.cmp x.alignment y.alignment ∷ []) }
+    ensures equal { (x y : CompactConfig) →
+        ⟦<CompactConfig as PartialEq>⟧.eq x y ≡ list_all (λ same. same) (
+        ⟦<Borders<char> as PartialEq>⟧.eq x.borders y.borders
+        ∷ ⟦<Borders<ANSIStr<'static>> as PartialEq>⟧.eq x.border_colors y.border_colors
+        ∷ ⟦<Sides<Indent> as PartialEq>⟧.eq x.margin y.margin
+        ∷ ⟦<Sides<ANSIStr<'static>> as PartialEq>⟧.eq x.margin_color y.margin_color
+        ∷ ⟦<Sides<Indent> as PartialEq>⟧.eq x.padding y.padding
+        ∷ ⟦<Sides<ANSIStr<'static>> as PartialEq>⟧.eq x.padding_color y.padding_color
+        ∷ ⟦<AlignmentHorizontal as PartialEq>⟧.eq x.alignment y.alignment ∷ []) }
+    ensures hashed { (x : CompactConfig) →
+        ⟦<CompactConfig as Hash>⟧.hash_input x
+        ≡ ⟦<Borders<char> as Hash>⟧.hash_input x.borders
+        ++ ⟦<Borders<ANSIStr<'static>> as Hash>⟧.hash_input x.border_colors
+        ++ ⟦<Sides<Indent> as Hash>⟧.hash_input x.margin
+        ++ ⟦<Sides<ANSIStr<'static>> as Hash>⟧.hash_input x.margin_color
+        ++ ⟦<Sides<Indent> as Hash>⟧.hash_input x.padding
+        ++ ⟦<Sides<ANSIStr<'static>> as Hash>⟧.hash_input x.padding_color
+        ++ ⟦<AlignmentHorizontal as Hash>⟧.hash_input x.alignment }
+    ensures cloned { (x y : CompactConfig) → ⟦<CompactConfig as Clone>⟧.is_clone x y → y ≡ x }
+{}
+
+/// There is one value of no colour, and one of no colours: each equals itself, and hashes nothing.
+pub fn one_value_each()
+    ensures no_color { (x y : NoColor) → ⟦<NoColor as PartialEq>⟧.eq x y ≡ true }
+    ensures no_color_ordered { (x y : NoColor) → ⟦<NoColor as Ord>⟧.cmp x y ≡ Ordering.Equal }
+    ensures no_color_hashed { (x : NoColor) → ⟦<NoColor as Hash>⟧.hash_input x ≡ [] }
+    ensures no_colors { (x y : NoColors) → ⟦<NoColors as PartialEq>⟧.eq x y ≡ true }
+    ensures no_colors_ordered { (x y : NoColors) → ⟦<NoColors as Ord>⟧.cmp x y ≡ Ordering.Equal }
+    ensures no_colors_hashed { (x : NoColors) → ⟦<NoColors as Hash>⟧.hash_input x ≡ [] }
 {}

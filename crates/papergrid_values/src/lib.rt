@@ -1,5 +1,6 @@
 //! The values that the settings of a table are made of: positions and entities, sides, indents and
-//! offsets, the borders of cells, the frame and the lines of a table, and colours as two texts. And
+//! offsets, the borders of cells, the frame and the lines of a table, colours as two texts, and what has
+//! one for each cell. Then the settings of a table whose cells all have the same ones. And
 //! positions and numbers as the keys of maps: single steps on hashed maps, told by what each key has.
 #![tactic(auto)]
 
@@ -9,6 +10,8 @@ pub mod ansi_fmt;
 pub mod ansi_str;
 pub mod border;
 pub mod borders;
+pub mod colors;
+pub mod compact;
 pub mod direction;
 pub mod entity;
 pub mod entity_iterator;
@@ -30,6 +33,8 @@ pub use ansi_fmt::ANSIFmt;
 pub use ansi_str::ANSIStr;
 pub use border::Border;
 pub use borders::Borders;
+pub use colors::{Colors, NoColor, NoColors};
+pub use compact::CompactConfig;
 pub use direction::Direction;
 pub use entity::Entity;
 pub use entity_iterator::EntityIterator;

@@ -4,8 +4,10 @@ ghost use Rattle.std.specs.Prelude.{◌≡◌, None, Some};
 ghost use Rattle.std.specs.Bool.{OnTrue};
 ghost use Rattle.std.specs.Option.{option_copied};
 
-use papergrid_maps::{Colors, EntityMap, NoColor, NoColors};
-use papergrid_values::{ANSIBuf, ANSIFmt, ANSIStr, Entity, Position};
+use papergrid_maps::EntityMap;
+use papergrid_values::{
+    ANSIBuf, ANSIFmt, ANSIStr, Colors, Entity, NoColor, NoColors, Position,
+};
 use std::alloc::Global;
 use std::collections::{BTreeMap, HashMap};
 use std::fmt;

@@ -1,8 +1,8 @@
 //! Each law at a type, but for that of equal clones.
 
-use papergrid_maps::{EntityMap, NoColors, laws as maps};
+use papergrid_maps::{EntityMap, laws as maps};
 use papergrid_tables::laws as tables;
-use papergrid_values::{ANSIBuf, ANSIStr, laws as values};
+use papergrid_values::{ANSIBuf, ANSIStr, NoColors, laws as values};
 
 #[test]
 fn laws_of_values() {
@@ -16,6 +16,10 @@ fn laws_of_values() {
     values::hashed_by_fields();
     values::plain_defaults::<char>();
     values::colors_by_reference::<ANSIBuf>();
+    values::empty_colors::<NoColors>();
+    values::empty_colors::<EntityMap<Option<ANSIStr<'static>>>>();
+    values::compact_by_fields();
+    values::one_value_each();
 }
 
 #[test]
@@ -32,11 +36,6 @@ fn laws_of_maps() {
     maps::history_makes_spans();
     maps::visible_by_rectangles();
     maps::equal_maps_by_history::<char>();
-    maps::plain_default();
-    maps::one_value_each();
-    maps::empty_colors::<NoColors>();
-    maps::empty_colors::<EntityMap<Option<ANSIStr<'static>>>>();
-    maps::compact_by_fields();
     maps::visible_where_not_hidden();
     maps::spans_by_place();
     maps::equal_maps::<char>();

@@ -1,4 +1,5 @@
 use Rattle.std.proofs.Common.{◌∙◌, ℕ, List, Vec, ap, inl, inr}
+use Rattle.std.proofs.lemmas.Result.{on_ok_weaker}
 use Rattle.std.specs.Io.KnownBytes.{Appends}
 use Rattle.std.specs.declared.alloc.Global.{Global}
 use Rattle.papergrid_csv.specs.Within.{IsRunWithin, cut_request}
@@ -9,9 +10,10 @@ use Rattle.papergrid_checks.proofs.csv_tables.csv_table_within.Goals as goal
 pub returns-clause-written : goal.returns-clause-written
 returns-clause-written g c =
     let contents = g.W.Sink.contents in
+    let all = on_ok_weaker c.run_csv_within.result (λ kept. kept.all) c.run_csv_within.ensures.kept in
     of-text c.run_csv_within.result
     (λ end text. (output : List ℕ) × IsRunWithin c.args.request.now c.args.width text c.run_csv_within.new.request.cut end output × Appends (contents c.args.writer.now) (contents c.run_csv_within.new.writer) output)
-    c.run_csv_within.new.input.items c.args.text.now (rw c.new-reader.ensures at c.run_csv_within.ensures.all_kept) c.run_csv_within.ensures.written
+    c.run_csv_within.new.input.items c.args.text.now (rw c.new-reader.ensures at all) c.run_csv_within.ensures.written
 
 pub returns-clause-beginning : goal.returns-clause-beginning
 returns-clause-beginning g c =
@@ -23,4 +25,4 @@ returns-clause-beginning g c =
       | inl kept ↦ inl (ap (λ (held : Vec ℕ Global). held.items) kept ∙ c.new-input.ensures.items)
       | inr whole ↦ let all = whole.all in inr (rw c.new-reader.ensures at all)
     ])
-    (λ e. let all = c.run_csv_within.ensures.write_all_kept e in rw c.new-reader.ensures at all)
+    (λ e. let whole = c.run_csv_within.ensures.write_kept e in let all = whole.all in rw c.new-reader.ensures at all)

@@ -1,6 +1,6 @@
 use Rattle.std.proofs.Common.{[], ◌∙◌, ap, subst, refl}
 use Rattle.papergrid_maps.specs.StoredMap as map
-use Rattle.papergrid_maps.specs.Compact.{all_sides}
+use Rattle.papergrid_values.specs.Compact.{all_sides}
 use Rattle.papergrid_config.proofs.spanned.SpannedConfig.new.Goals as goal
 
 pub returns : goal.returns

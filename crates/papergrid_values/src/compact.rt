@@ -1,9 +1,9 @@
 //! The settings of a table whose cells all have the same ones. Source: `config/compact/mod.rs`.
 
 ghost use Rattle.std.specs.Prelude.{◌≡◌};
-ghost use Rattle.papergrid_maps.specs.Compact.{IsNew};
+ghost use Rattle.papergrid_values.specs.Compact.{IsNew};
 
-use papergrid_values::{ANSIStr, AlignmentHorizontal, Borders, Indent, Sides};
+use crate::{ANSIStr, AlignmentHorizontal, Borders, Indent, Sides};
 
 /// The frame of a table, the room round it, and the padding and the alignment of its cells. What
 /// is coloured has a colour of two texts, both of them empty where none is set.

@@ -2,7 +2,7 @@ use Rattle.std.proofs.Common.{append_assoc, ◌≡◌, Bool, true, false, ◌&&�
 use Rattle.std.specs.declared.cmp.Ordering.{Ordering}
 use Rattle.std.specs.declared.cmp.Ordering.TheVariants.{Less, Equal, Greater}
 use Rattle.std.specs.Ordering.{ordering_then}
-use Rattle.papergrid_maps.proofs.laws.compact_by_fields.Goals as goal
+use Rattle.papergrid_values.proofs.laws.compact_by_fields.Goals as goal
 
 then_equal : (last : Ordering) → ordering_then last Equal ≡ last
 then_equal Less = refl

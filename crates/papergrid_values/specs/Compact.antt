@@ -11,7 +11,7 @@ use Rattle.papergrid_values.specs.declared.sides.Sides.{Sides}
 use Rattle.papergrid_values.specs.Borders.{frame_with}
 use Rattle.papergrid_values.specs.Colors.{texts_of}
 use Rattle.papergrid_values.specs.Keys.{sides_parts}
-use Rattle.papergrid_maps.specs.declared.compact.CompactConfig.{CompactConfig}
+use Rattle.papergrid_values.specs.declared.compact.CompactConfig.{CompactConfig}
 
 -- so many spaces
 abbrev pub spaces : ℕ → Indent
