@@ -233,16 +233,8 @@ module _ (end : ℕ) (text : List ℕ) where
   cells-cut None none = piece-alone none ∙ ap (λ piece. piece ∷ []) (sym (whole-piece none))
   cells-cut (Some rest) found = slice_split_first ends text 0 found.1 ∙ ap (λ left. before_first ends text ∷ slice_split ends left) (sym found.0)
 
-  pub less-left : (after : Option (Bor (List ℕ))) → IsBehind after → left_count after < length text + 1
-  less-left None none = omega arith
-  less-left (Some rest) found = omega (arith, ap length found.0, length-drop (position_or_len ends text + 1) text)
-
   -- where there is something to cut
   module _ (some : 0 < length text) (nothing : Bor (List ℕ)) (none_left : nothing.now ≡ []) where
-    pub less-behind : (after : Option (Bor (List ℕ))) → IsBehind after → length (unwrap_or after nothing).now < length text
-    less-behind None none = omega (arith, ap length none_left)
-    less-behind (Some rest) found = omega (arith, ap length found.0, length-drop (position_or_len ends text + 1) text)
-
     pieces-cut : (after : Option (Bor (List ℕ))) → IsBehind after →
         unless_last_is_empty (slice_split ends text) ≡ before_first ends text ∷ unless_last_is_empty (slice_split ends (unwrap_or after nothing).now)
     pieces-cut None none =

@@ -92,9 +92,6 @@ pub record Applies (old new : SpannedConfig) (settings : List Setting) : Type 0 
   pub told : AppendsSettings old new settings
   pub others : new ≡ changed_by settings old new
 
-pub applies_none : (old : SpannedConfig) → AppendsSettings old old [] → Applies old old []
-applies_none old told = record { told = told; others = unchanged [] [] old }
-
 pub applies_more : {old mid new : SpannedConfig} (xs ys : List Setting) → Applies old mid xs → AppendsSettings mid new ys → new ≡ changed_by ys mid new → Applies old new (xs ++ ys)
 applies_more {old = old} {mid = mid} {new = new} xs ys first told others = record {
   told = appends_more xs ys first.told told;

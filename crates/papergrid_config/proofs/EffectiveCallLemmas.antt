@@ -1,6 +1,7 @@
 -- The search for the deciding call finds the one that decides by its place.
 use Rattle.std.proofs.Common.{◌≡◌, ◌⊎◌, ◌<◌, ◌≤◌, ◌+◌, ◌&&◌, ◌∷◌, [], ℕ, zero, suc, List, Bool, true, false, cond, Option, Some, None, length, take, get_or, reverse, refl, sym, ap, ◌∙◌, subst, arith, inl, inr, nat_eq}
 use Rattle.std.specs.Prelude.{find, slice_get, is_some, unwrap_or}
+use Rattle.std.proofs.lemmas.Bool.{and_parts}
 use Rattle.std.proofs.lemmas.List.{reverse-append, take_more, take_all}
 use Rattle.std.proofs.lemmas.Option.{same_Some, none-some, slice_get_cases, slice_get_within, get_or_from_slice_get}
 use borrow.Author.Tests.{eqb-true, eq-eqb}
@@ -24,7 +25,7 @@ decided_by given newest p =
     (unwrap_or (standing_value (Column p.col) newest)
     (unwrap_or (standing_value (Row p.row) newest) (global_value given newest)))
 
-chosen : {A : Type 0} (b : Bool) (x y z : A) → cond b x y ≡ z → ((b ≡ true) × (x ≡ z)) ⊎ ((b ≡ false) × (y ≡ z))
+pub chosen : {A : Type 0} (b : Bool) (x y z : A) → cond b x y ≡ z → ((b ≡ true) × (x ≡ z)) ⊎ ((b ≡ false) × (y ≡ z))
 chosen true x y z h = inl (refl, h)
 chosen false x y z h = inr (refl, h)
 
@@ -118,15 +119,11 @@ module _ {T : Type 0} where
   cell_override_ends_none r c older (Remove (Row i)) v h = cc
   cell_override_ends_none r c older (Remove (Column j)) v h = cc
 
-and_true : (a b : Bool) → a && b ≡ true → (a ≡ true) × (b ≡ true)
-and_true true b h = (refl, h)
-and_true false b h = cc
-
 same_entity : (d e : Entity) → entity_eq d e ≡ true → d ≡ e
 same_entity Global Global h = refl
 same_entity (Column i) (Column j) h = ap (λ k. Column k) (eqb-true i j h)
 same_entity (Row i) (Row j) h = ap (λ k. Row k) (eqb-true i j h)
-same_entity (Cell i j) (Cell k l) h = let both = and_true (nat_eq i k) (nat_eq j l) h in λ t. Cell (eqb-true i k both.0 t) (eqb-true j l both.1 t)
+same_entity (Cell i j) (Cell k l) h = let both = and_parts (nat_eq i k) (nat_eq j l) h in λ t. Cell (eqb-true i k both.0 t) (eqb-true j l both.1 t)
 same_entity d e h = cc
 
 -- ---- places in the list

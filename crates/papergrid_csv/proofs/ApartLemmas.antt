@@ -21,9 +21,10 @@ use Rattle.unicode_width.proofs.KindLemmas.{is_ligature_transparent_stepped}
 use Rattle.papergrid_width.proofs.RangeLemmas.{AllPass, Ones, Twos, all_pass, has_kind, kind_in, own, passes, ranges_of}
 use Rattle.papergrid_text.specs.Separators.{is_separator}
 use Rattle.papergrid_text.proofs.SeparatorLemmas.{separates}
-use Rattle.papergrid_text.proofs.TrimLemmas.{read-append, read-shifted}
+use Rattle.papergrid_text.proofs.TrimLemmas.{read-shifted}
 use Rattle.papergrid_text.proofs.Widths.{str_width-nil}
 use Rattle.papergrid_csv.specs.ForProofs.Cuts.{StandsApart, is_apart, is_narrow_letter, is_wide_letter}
+use Rattle.papergrid_width.proofs.RunLemmas.{read_append}
 
 ellipsis-read : step false 0x2026 (0, plain) ≡ (1, plain)
 unfolding unicode_width
@@ -33,7 +34,7 @@ ellipsis-read = refl
 pub ellipsis-adds : (cs : List ℕ) → str_width false (cs ++ 0x2026 ∷ []) ≡ str_width false cs + 1
 unfolding str_width
 ellipsis-adds cs =
-    ap (λ (r : Reading). r.0) (read-append cs (0x2026 ∷ []) (0, plain)) ∙ ap (λ (r : Reading). (read_before false cs r).0) ellipsis-read ∙ read-shifted cs 1
+    ap (λ (r : Reading). r.0) (read_append cs (0x2026 ∷ []) (0, plain)) ∙ ap (λ (r : Reading). (read_before false cs r).0) ellipsis-read ∙ read-shifted cs 1
 
 separator-apart : (c : ℕ) → is_separator c ≡ true → StandsApart c
 separator-apart c is front back =
@@ -189,7 +190,7 @@ letter-adds : (c : ℕ) (it : IsLetter c) (front back : List ℕ) → str_width 
 unfolding str_width
 letter-adds c it front back =
     let r = read_before false back (0, plain) in
-    ap (λ (r : Reading). r.0) (read-append front (c ∷ back) (0, plain))
+    ap (λ (r : Reading). r.0) (read_append front (c ∷ back) (0, plain))
     ∙ ap (λ (r : Reading). (read_before false front r).0) (letter-step c r.0 r.1 it)
     ∙ read-shifted front (r.0 + it.columns)
     ∙ omega arith

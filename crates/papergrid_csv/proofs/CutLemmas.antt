@@ -210,19 +210,6 @@ module _ (columns : ℕ) (line segment rest : List ℕ) (taken before end : ℕ)
       pub next-boundary : IsCharBoundary segment n
       next-boundary = subst (IsCharBoundary segment) (sym n-long) (IsCharBoundary-at_seam segment (encode_utf8_all next_seen) left segment-split left-text)
 
-      -- the bytes of the line have room
-      pub next-within : end + size ≤ length line
-      next-within =
-          let whole = ap length line-whole in
-          let parts = length-append (encode_utf8_all kept) rest in
-          let more = ap length rest_is in
-          let last = length-append (encode c) left in
-          let at = end-of-kept in
-          omega arith
-
-      pub next-short : n ≤ length line
-      next-short = let bound = next-within in let at = so.end_is in omega arith
-
       next-taken : take n segment ≡ encode_utf8_all next_seen
       next-taken = ap (λ k. take k segment) n-long ∙ ap (take (length (encode_utf8_all next_seen))) segment-split ∙ take-append_seam (encode_utf8_all next_seen) left
 
@@ -361,10 +348,6 @@ front-cut (suc k) place n line text front within is wide =
 
 -- ---- what is added
 
-pub adds-whole : {E : Type 0} (r : Result (Unit {0}) E) (columns : ℕ) (line old new : List ℕ) → width_of line ≤ columns → OnOk r (new ≡ old ++ line) → OnOk r (AddsLine columns line true old new)
-adds-whole (Ok x) columns line old new narrow is = (line, inl (narrow, refl), is)
-adds-whole (Err e) columns line old new narrow is = tt
-
 pub adds-cut : {E : Type 0} (r : Result (Unit {0}) E) (columns place : ℕ) (line part old middle new : List ℕ) → columns < width_of line → IsCutAt columns line place → part ≡ take (place - 0) line →
     middle ≡ old ++ part → OnOk r (new ≡ middle ++ encode 0x2026) → OnOk r (AddsLine columns line true old new)
 adds-cut (Ok x) columns place line part old middle new wide at part_is first second = (
@@ -389,9 +372,6 @@ join-more [] cut some = absurd (omega arith)
 join-more (x ∷ []) cut some = refl
 join-more (x ∷ y ∷ more) cut some = ap (λ t. x ++ (10 ∷ t)) (join-more (y ∷ more) cut (omega arith)) ∙ sym (append_assoc x (10 ∷ join_with_byte 10 (y ∷ more)) (10 ∷ cut))
 
-pub cut-none : (columns : ℕ) (shown : List ℕ) → shown ≡ [] → AreCut columns [] true shown
-cut-none columns shown none = record { cuts = []; each = tt; is = none; first = λ _. refl; later = λ is. cc }
-
 pub cut-more : (columns : ℕ) (lines : List (List ℕ)) (line : List ℕ) (begins : Bool) (old new : List ℕ) → AreCut columns lines begins old → AddsLine columns line begins old new →
     AreCut columns (lines ++ line ∷ []) false new
 cut-more columns lines line begins old new so adds = record {
@@ -408,9 +388,6 @@ cut-more columns lines line begins old new so adds = record {
         adds.2 ∙ ap (λ b. old ++ cond b adds.0 (10 ∷ adds.0)) is ∙ ap (λ t. t ++ adds.0) (so.is ∙ ap (join_with_byte 10) none)
         ∙ sym (ap (λ cs. join_with_byte 10 (cs ++ adds.0 ∷ [])) none)
     by false is = adds.2 ∙ ap (λ b. old ++ cond b adds.0 (10 ∷ adds.0)) is ∙ ap (λ t. t ++ (10 ∷ adds.0)) so.is ∙ sym (join-more so.cuts adds.0 (so.later is))
-
-pub cut-all : (columns : ℕ) (text : List ℕ) (lines : List (List ℕ)) (begins : Bool) (shown : List ℕ) → AreCut columns lines begins shown → lines ≡ split_lines text → IsCut columns text shown
-cut-all columns text lines begins shown so all = record { lines = so.cuts; each = subst (λ (ls : List (List ℕ)). AllZip (IsCutLine columns) ls so.cuts) all so.each; joined = so.is }
 
 -- ---- a text that is not cut
 

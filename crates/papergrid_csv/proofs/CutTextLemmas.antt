@@ -1,46 +1,19 @@
 -- Cut texts are texts.
-use Rattle.std.proofs.Common.{◌≡◌, ◌∙◌, ◌+◌, ◌<◌, ℕ, zero, suc, true, List, [], ◌∷◌, ◌++◌, All, Option, Some, None, append_assoc, ap, arith, drop, get_or, inl, inr, length, length-append, lit<, refl, subst, sym, take}
+use Rattle.std.proofs.Common.{◌≡◌, ◌∙◌, ℕ, zero, suc, true, List, [], ◌∷◌, All, Option, Some, None, ap, arith, inl, inr, length, refl, subst, sym, take}
 use Rattle.std.specs.Prelude.{IsUtf8, chars}
 use Rattle.std.specs.List.{AllZip, join_with_byte}
-use Rattle.std.proofs.Math.Seq.{drop-append_seam, get_or-append_seam, take-append_seam}
 use Rattle.std.proofs.Math.Utf8.{scalar, scalars}
 use Rattle.std.proofs.lemmas.Bool.{and_parts}
 use Rattle.std.proofs.lemmas.List.Elements.{All-cons, All-head, All-nil, All-tail}
 use Rattle.std.proofs.lemmas.List.Splits.{join_with_byte-slice_split}
-use Rattle.std.proofs.lemmas.Str.{IsCharBoundary-after_ascii, IsCharBoundary-before_ascii, IsUtf8-append, IsUtf8-drop, IsUtf8-from_ascii, IsUtf8-nil, IsUtf8-take, encodes-append, scalars-chars}
+use Rattle.std.proofs.lemmas.Str.{IsUtf8-append, IsUtf8-from_ascii, IsUtf8-nil, encodes-append, scalars-chars}
 use Rattle.papergrid_text.specs.Text.{split_lines}
 use Rattle.papergrid_csv.specs.Cutting.{IsCut, IsCutLine}
 use Rattle.papergrid_csv.specs.Shown.{AreCut}
 use Rattle.papergrid_csv.proofs.SpellingLemmas.{is-ascii}
+use Rattle.papergrid_draw.proofs.HonestLemmas.{parts-utf8}
 
 -- ---- lines
-
-record AreUtf8 (line rest : List ℕ) : Type 0 where
-  line_is : IsUtf8 line
-  rest_is : IsUtf8 rest
-
-at-newline : (line rest : List ℕ) → IsUtf8 (line ++ 10 ∷ rest) → AreUtf8 line rest
-at-newline line rest utf8 =
-    let text : List ℕ = line ++ 10 ∷ rest in
-    let newline : get_or text (length line) 0 ≡ 10 = get_or-append_seam line 10 rest 0 in
-    let all : length text ≡ length line + length (10 ∷ rest) = length-append line (10 ∷ rest) in
-    let below : length line < length text = omega arith in
-    let ascii : get_or text (length line) 0 < 128 = rw newline (lit< tt) in
-    let regroup : text ≡ (line ++ 10 ∷ []) ++ rest = sym (append_assoc line (10 ∷ []) rest) in
-    let past : length (line ++ 10 ∷ []) ≡ length line + 1 = length-append line (10 ∷ []) in
-    let later : drop (length line + 1) text ≡ rest =
-    ap (λ n. drop n text) (sym past) ∙ ap (drop (length (line ++ 10 ∷ []))) regroup ∙ drop-append_seam (line ++ 10 ∷ []) rest in
-    record {
-      line_is = subst IsUtf8 (take-append_seam line (10 ∷ rest)) (IsUtf8-take text (length line) utf8 (IsCharBoundary-before_ascii text (length line) below ascii));
-      rest_is = subst IsUtf8 later (IsUtf8-drop text (length line + 1) utf8 (IsCharBoundary-after_ascii text (length line) utf8 below ascii));
-    }
-
-parts-utf8 : (parts : List (List ℕ)) → IsUtf8 (join_with_byte 10 parts) → All IsUtf8 parts
-parts-utf8 [] utf8 = All-nil IsUtf8
-parts-utf8 (part ∷ []) utf8 = All-cons IsUtf8 part [] utf8 (All-nil IsUtf8)
-parts-utf8 (part ∷ next ∷ more) utf8 =
-    let both = at-newline part (join_with_byte 10 (next ∷ more)) utf8 in
-    All-cons IsUtf8 part (next ∷ more) both.line_is (parts-utf8 (next ∷ more) both.rest_is)
 
 joined-utf8 : (parts : List (List ℕ)) → All IsUtf8 parts → IsUtf8 (join_with_byte 10 parts)
 joined-utf8 [] all = IsUtf8-nil

@@ -5,7 +5,7 @@ use Rattle.std.specs.List.{list_any}
 use Rattle.std.proofs.lemmas.Bool.Decides.{nat_tests}
 use Rattle.std.proofs.lemmas.Grind.{flat_map-append}
 use Rattle.std.proofs.lemmas.Str.{encodes-append}
-use Rattle.papergrid_csv.specs.Spelling.{escaped, is_escaped, meant, spelled_character, without_escapes}
+use Rattle.papergrid_csv.specs.Spelling.{is_escaped, meant, spelled_character, without_escapes}
 use Rattle.papergrid_csv.specs.ForProofs.Escapes.{after_backslash}
 use Rattle.papergrid_csv.specs.declared.reading.Format.{Format}
 use Rattle.papergrid_csv.specs.declared.reading.Format.TheVariants.{Tsv}
@@ -55,9 +55,6 @@ pub record IsSettled (reading : Reading) (yielded : List ℕ) (held : Bool) (tex
   pub left : (rest : List ℕ) → without_escapes (yielded ++ rest) ≡ characters ++ without_escapes (held_before held rest)
 
 module _ (reading : Reading) where
-  pub settled-none : IsSettled reading [] false []
-  settled-none = record { characters = []; is = refl; left = λ rest. refl }
-
   -- with more characters
   more-characters : (characters more old new : List ℕ) → old ≡ encode_utf8_all (flat_map (spelled_character reading) characters) →
       new ≡ old ++ encode_utf8_all (flat_map (spelled_character reading) more) → new ≡ encode_utf8_all (flat_map (spelled_character reading) (characters ++ more))
@@ -68,16 +65,6 @@ module _ (reading : Reading) where
 
   one : (c : ℕ) → encode_utf8_all (spelled_character reading c) ≡ encode_utf8_all (flat_map (spelled_character reading) (c ∷ []))
   one c = ap encode_utf8_all (sym (append-nil (spelled_character reading c)))
-
-  -- a backslash is held
-  pub settled-held : (yielded text : List ℕ) (held : Bool) (c : ℕ) → held ≡ false → c ≡ 0x5C → IsSettled reading yielded held text → IsSettled reading (yielded ++ c ∷ []) true text
-  settled-held yielded text held c none is so = record {
-    characters = so.characters;
-    is = so.is;
-    left = λ rest.
-        ap without_escapes (append_assoc yielded (c ∷ []) rest) ∙ so.left (c ∷ rest) ∙ ap (λ b. so.characters ++ without_escapes (held_before b (c ∷ rest))) none
-        ∙ ap (λ d. so.characters ++ without_escapes (d ∷ rest)) is;
-  }
 
   -- a character that stands for itself
   pub settled-plain : (yielded old new : List ℕ) (held : Bool) (c : ℕ) → held ≡ false → c ≢ 0x5C → IsSettled reading yielded held old →
@@ -123,9 +110,6 @@ module _ (reading : Reading) where
 
 abbrev pub all_spelled : Reading → List ℕ → List ℕ
 all_spelled reading cs = encode_utf8_all (flat_map (spelled_character reading) cs)
-
-pub escaped-one : (reading : Reading) (c d : ℕ) → is_escaped c ≡ true → escaped c ≡ d → encode_utf8_all (spelled_character reading d) ≡ all_spelled reading (after_backslash c)
-escaped-one reading c d is to = rw (is, to) (one reading d)
 
 pub escaped-two : (reading : Reading) (c : ℕ) (old middle new : List ℕ) → is_escaped c ≡ false → middle ≡ old ++ encode_utf8_all (spelled_character reading 0x5C) →
     new ≡ middle ++ encode_utf8_all (spelled_character reading c) → new ≡ old ++ all_spelled reading (after_backslash c)

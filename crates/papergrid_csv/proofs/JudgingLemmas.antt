@@ -1,5 +1,5 @@
 -- The first names that are missing, and the first fields that are hidden.
-use Rattle.std.proofs.Common.{◌≡◌, ◌≢◌, ◌∙◌, ◌⊎◌, ◌+◌, ◌<◌, ◌≤◌, ◌++◌, ◌∷◌, [], ℕ, Bool, true, false, not, List, Option, None, Some, ap, arith, cond, get_or, inl, inr, length, map, refl, subst, sym, take, ⊎_elim}
+use Rattle.std.proofs.Common.{◌≡◌, ◌≢◌, ◌∙◌, ◌⊎◌, ◌+◌, ◌<◌, ◌≤◌, ◌++◌, ◌∷◌, [], ℕ, true, false, not, List, Option, None, Some, ap, arith, cond, get_or, inl, inr, length, map, refl, subst, sym, take, ⊎_elim}
 use Rattle.std.specs.Prelude.{MatchOption, Vec, nat_lt}
 use Rattle.std.specs.List.{Contains, position_or_len}
 use Rattle.std.proofs.lemmas.Bool.{cases_lt}
@@ -23,9 +23,6 @@ use Rattle.papergrid_csv.specs.declared.request.Span.{Span}
 -- ---- names
 
 module _ (head : List (List ℕ)) (entries : List (ColumnName × Alignment)) where
-  is_missing : ColumnName × Alignment → Bool
-  is_missing entry = not (is_found head entry.0)
-
   -- all before one are found, and it is not
   pub missing-at : (i : ℕ) (d : ColumnName × Alignment) → i < length entries → ((k : ℕ) (e : ColumnName × Alignment) → k < i → is_found head (get_or entries k e).0 ≡ true) →
       is_found head (get_or entries i d).0 ≡ false → Some i ≡ first_missing head entries

@@ -131,14 +131,6 @@ tells-quoted reading delimiter input text told is stripped tells =
       (λ unclosed. tells.1 (subst at (sym stripped) (alike.1 (subst by is unclosed)))),
     )
 
-pub none-told : (reading : Reading) (input : List ℕ) (told : Bool) → told ≡ false → (IsUnclosed reading input → ⊥) → IsTrue told ↔ IsUnclosed reading input
-none-told reading input told untold closed = ((λ yes. absurd (let none : ⊥ = cc in none)), (λ unclosed. absurd (closed unclosed)))
-
-pub tells-closed : (reading : Reading) (delimiter : ℕ) (input : List ℕ) → reading.format ≡ Csv delimiter → list_any (λ b. b == 34) input ≡ false → IsUnclosed reading input → ⊥
-tells-closed reading delimiter input is none unclosed =
-    let by = λ (f : Format). state_after (config_by f) states.StartRecord (strip_bom input) ≡ states.InQuoted in
-    no-quote delimiter Start (strip_bom input) (none-after_mark input none) (λ same. cc) ((ends-alike delimiter (strip_bom input)).1 (subst by is unclosed))
-
 -- ---- a text between tabs
 
 abbrev IsUnquoted : State → Type 0
@@ -174,11 +166,6 @@ place-more : (delimiter : ℕ) (place : Place) (bytes : List ℕ) (byte : ℕ) �
 unfolding place_behind
 place-more delimiter place [] byte = refl
 place-more delimiter place (b ∷ bytes) byte = place-more delimiter (place_after delimiter place b) bytes byte
-
-pub place-next : (delimiter : ℕ) (text : List ℕ) (i : ℕ) (place next : Place) → i < length text → place ≡ place_behind delimiter Start (take i text) →
-    next ≡ place_after delimiter place (get_or text i 0) → next ≡ place_behind delimiter Start (take (i + 1) text)
-place-next delimiter text i place next within is step =
-    step ∙ ap (λ p. place_after delimiter p (get_or text i 0)) is ∙ sym (ap (place_behind delimiter Start) (take_more text i 0 within) ∙ place-more delimiter Start (take i text) (get_or text i 0))
 
 -- ---- from quote to quote
 

@@ -1,5 +1,5 @@
 -- How the characters of a field are spelled.
-use Rattle.std.proofs.Common.{◌≡◌, ◌≢◌, ◌∙◌, ◌<◌, ◌≤◌, ◌-◌, ◌/◌, ◌%◌, ℕ, zero, suc, List, [], ◌∷◌, ◌++◌, Bool, true, false, cond, Option, None, Some, Result, Ok, Err, append-nil, ap, arith, refl, replicate, subst, sym}
+use Rattle.std.proofs.Common.{◌≡◌, ◌≢◌, ◌∙◌, ◌<◌, ◌≤◌, ◌-◌, ◌/◌, ◌%◌, ℕ, zero, suc, List, [], ◌∷◌, ◌++◌, Bool, true, false, cond, Option, Some, Result, Ok, Err, append-nil, ap, arith, refl, replicate, subst, sym}
 use Rattle.std.specs.Prelude.{OnOk, IfOk, ◌==◌, nat_lt, chars, codes, encode_utf8_all, flat_map}
 use Rattle.std.specs.Fmt.{AppendsText, digit_glyph, digits}
 use Rattle.std.specs.Int.{is_in_range}
@@ -114,14 +114,6 @@ others-spelled reading c not_feed not_tab =
 pub raw-kept : (raw : Bool) (c : ℕ) → raw ≡ true → encode c ≡ encode_utf8_all (spelled_in_line raw c)
 raw-kept raw c is = rw is (sym (append-nil (encode c)))
 
-pub return-spelled : (raw : Bool) (c : ℕ) → raw ≡ false → c ≡ 13 → codes "\\r" ≡ encode_utf8_all (spelled_in_line raw c)
-return-spelled raw c not_raw is = rw (is, not_raw) (sym (encodes-ascii (codes "\\r") (omega arith, (omega arith, tt))))
-
-pub other-in-line : (raw : Bool) (c : ℕ) → raw ≡ false → c ≢ 13 → encode_utf8_all (spelled_other c) ≡ encode_utf8_all (spelled_in_line raw c)
-other-in-line raw c not_raw not_return =
-    let back : (c == 13) ≡ false = grind (arith, nat_tests) in
-    rw (not_raw, back) refl
-
 -- ---- a tab
 
 pub blanks-ascii : (n : ℕ) → AllAscii (replicate n 32)
@@ -130,12 +122,6 @@ blanks-ascii (suc n) = (omega arith, blanks-ascii n)
 
 pub blanks-spelled : (tab : Option ℕ) (n : ℕ) (raw : Bool) → tab ≡ Some n → replicate n 32 ≡ encode_utf8_all (spelled_tab tab raw)
 blanks-spelled tab n raw is = rw is (sym (encodes-ascii (replicate n 32) (blanks-ascii n)))
-
-pub tab-kept : (tab : Option ℕ) (raw : Bool) → tab ≡ None → raw ≡ true → encode 9 ≡ encode_utf8_all (spelled_tab tab raw)
-tab-kept tab raw none is = rw (none, is) (sym (append-nil (encode 9)))
-
-pub tab-named : (tab : Option ℕ) (raw : Bool) → tab ≡ None → raw ≡ false → codes "\\t" ≡ encode_utf8_all (spelled_tab tab raw)
-tab-named tab raw none is = rw (none, is) (sym (encodes-ascii (codes "\\t") (omega arith, (omega arith, tt))))
 
 -- ---- a whole field
 

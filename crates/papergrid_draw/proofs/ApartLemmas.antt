@@ -1,35 +1,20 @@
 -- Whether separators stand between the texts of a table's cells, by row and then by column.
-use Rattle.std.proofs.Common.{◌≡◌, ◌∙◌, ◌⊎◌, ◌↔◌, ℕ, ◌+◌, ◌<◌, Bool, true, false, ◌&&◌, ◌||◌, if◌then◌else◌, Option, Some, None, IsTrue, length, ap, refl, sym, subst, inl, inr, arith}
-use Rattle.std.proofs.lemmas.Bool.{cases_lt, false≢true}
+use Rattle.std.proofs.Common.{◌≡◌, ◌∙◌, ◌⊎◌, ◌↔◌, ℕ, ◌+◌, Bool, true, false, ◌&&◌, ◌||◌, if◌then◌else◌, Option, Some, None, IsTrue, length, ap, refl, sym, subst, inl, inr, arith}
+use Rattle.std.proofs.lemmas.Bool.{false≢true}
 use Rattle.std.proofs.lemmas.Option.{none-some}
-use Rattle.papergrid_values.specs.Positions.{IsBefore, position_of}
+use Rattle.papergrid_values.specs.Positions.{position_of}
 use Rattle.papergrid_values.specs.declared.position.Position.{Position}
 use Rattle.papergrid_maps.specs.declared.anchors.Anchor.{Anchor}
 use Rattle.papergrid_walk.specs.ForProofs.Shown.{anchor_in}
 use Rattle.papergrid_layout.specs.Places.{IsVisibleCell, TableView}
 use Rattle.papergrid_layout.specs.Tables.{TableParts, view_of}
-use Rattle.papergrid_layout.proofs.PlacingLemmas.{before-next}
+use Rattle.papergrid_layout.proofs.PlacingLemmas.{before-next, before-row, before-step, before-turn}
 use Rattle.papergrid_draw.specs.Drawings.{Drawing, layout_of}
 use Rattle.papergrid_draw.specs.Separated.{AreApart}
 use Rattle.papergrid_draw.specs.declared.separated.Apart.{Apart}
 use Rattle.papergrid_draw.specs.ForProofs.Apart.{AreTested, HoldsBefore, IsCellApartAfter, IsCellApartBefore, IsTested}
 
 -- ---- order
-
-before-more : (p : Position) (r c : ℕ) → IsBefore p (position_of (r, c)) → IsBefore p (position_of (r, c + 1))
-before-more p r c (inl above) = inl above
-before-more p r c (inr left) = let l : p.col < c = left.1 in inr (left.0, omega arith)
-
-before-row : (p : Position) (r c : ℕ) → IsBefore p (position_of (r, c)) → IsBefore p (position_of (r + 1, 0))
-before-row p r c (inl above) = let l : p.row < r = above in inl (omega arith)
-before-row p r c (inr left) = let e : p.row ≡ r = left.0 in inl (omega arith)
-
-before-turn : (p : Position) (r c : ℕ) → p.col < c → IsBefore p (position_of (r + 1, 0)) → IsBefore p (position_of (r, c))
-before-turn p r c in_row (inl above) = elim (cases_lt p.row r) [
-  | inl l ↦ inl l
-  | inr ge ↦ let l : p.row < r + 1 = above in inr (omega arith, in_row)
-]
-before-turn p r c in_row (inr left) = let l : p.col < 0 = left.1 in absurd (omega arith)
 
 -- ---- a test of each visible cell
 
@@ -45,7 +30,7 @@ module _ (table : TableView) (holds : Position → Type 0) where
   holds-more r c true false before here =
       (λ e. absurd (false≢true e), λ all. here.1 (λ cell. all (position_of (r, c)) (inr (refl, omega arith)) cell))
   holds-more r c false here before told =
-      (λ e. absurd (false≢true e), λ all. before.1 (λ p earlier cell. all p (before-more p r c earlier) cell))
+      (λ e. absurd (false≢true e), λ all. before.1 (λ p earlier cell. all p (before-step p r c earlier) cell))
 
   holds-turn : (r c : ℕ) (so_far : Bool) → c ≡ table.shape.1 → (IsTrue so_far ↔ HoldsBefore table holds r c) → IsTrue so_far ↔ HoldsBefore table holds (r + 1) 0
   holds-turn r c so_far end before = (

@@ -1,9 +1,8 @@
 -- Texts of one line that stand between blanks alone.
-use Rattle.std.proofs.Common.{◌≡◌, ℕ, ◌+◌, ◌-◌, ◌≤◌, List, [], ◌∷◌, ◌++◌, None, Some, length, zero, suc, refl, ap, arith, sym, ◌∙◌, append_assoc, replicate}
+use Rattle.std.proofs.Common.{◌≡◌, ℕ, ◌+◌, ◌-◌, List, [], ◌∷◌, ◌++◌, None, Some, length, zero, suc, refl, ap, arith, sym, ◌∙◌, append_assoc, replicate}
 use Rattle.std.proofs.lemmas.List.{append-nil, replicate-append-replicate}
 use Rattle.std.specs.Prelude.{if◌then◌else◌}
 use Rattle.std.proofs.lemmas.Bool.{ne_eqb}
-use Rattle.papergrid_values.specs.declared.alignment.AlignmentHorizontal.{AlignmentHorizontal}
 use Rattle.papergrid_values.specs.declared.alignment.AlignmentHorizontal.TheVariants as horizontal
 use Rattle.papergrid_draw.specs.Bytes.{colored, pieces_bytes}
 use Rattle.papergrid_draw.specs.Contents as contents
@@ -15,12 +14,6 @@ use Rattle.papergrid_draw.specs.ForProofs.Pens.{fill_bytes}
 use Rattle.papergrid_draw.specs.declared.blanks.Blanks.{Blanks}
 use Rattle.papergrid_draw.proofs.BlockLemmas.{aligned-only, content-only, line-filled, only_line}
 use Rattle.papergrid_draw.proofs.PenLemmas.{blanks-are}
-
--- no more is left of a text than is free
-pub free_before-le : (alignment : AlignmentHorizontal) (free : ℕ) → free_before alignment free ≤ free
-free_before-le horizontal.Left free = omega arith
-free_before-le horizontal.Center free = omega arith
-free_before-le horizontal.Right free = omega arith
 
 -- blanks without a colour
 pub blank_bytes : (n : ℕ) → fill_bytes None 32 n ≡ replicate n 32

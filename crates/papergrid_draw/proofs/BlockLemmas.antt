@@ -1,8 +1,8 @@
 -- The lines of a cell that are shown, and what stands in each line of its place.
-use Rattle.std.proofs.Common.{◌≡◌, ℕ, ◌+◌, ◌-◌, ◌^◌, ◌<◌, ◌≤◌, max, List, [], ◌∷◌, ◌++◌, Bool, true, false, get_or, take, drop, length, reverse, inl, inr, refl, ap, sym, subst, ◌∙◌, arith, append_assoc, get_or-take, get_or-drop, length-drop}
+use Rattle.std.proofs.Common.{◌≡◌, ℕ, ◌+◌, ◌-◌, ◌<◌, ◌≤◌, max, List, [], ◌∷◌, ◌++◌, Bool, true, false, get_or, take, drop, length, reverse, inl, inr, refl, ap, sym, subst, ◌∙◌, arith, append_assoc, get_or-drop, length-drop}
 use Rattle.std.specs.Prelude.{nat_lt, if◌then◌else◌, ◌⊎◌, ◌↔◌, IsTrue}
 use Rattle.std.proofs.lemmas.Bool.{lt-ltb, le-ltb}
-use Rattle.std.proofs.lemmas.List.{drop_all, drop_more, length-take-le, reverse-append, reverse-reverse, take_all, take_more, take_rest}
+use Rattle.std.proofs.lemmas.List.{length-take-le, reverse-append, reverse-reverse, take_more}
 use Rattle.std.proofs.lemmas.List.Recursion.{max_push}
 use Rattle.papergrid_values.specs.declared.alignment.AlignmentVertical.{AlignmentVertical}
 use Rattle.papergrid_values.specs.declared.alignment.AlignmentVertical.TheVariants as vertical
@@ -25,20 +25,6 @@ blank_first line lines blank = ap (λ b. if b then from_text lines else (line �
 
 text_first : (line : Line) (lines : List Line) → is_blank line ≡ false → from_text (line ∷ lines) ≡ line ∷ lines
 text_first line lines text = ap (λ b. if b then from_text lines else (line ∷ lines)) text
-
--- a blank line is skipped
-pub from_text-skip : (lines : List Line) (i : ℕ) → i < length lines → is_blank (get_or lines i ([], 0)) ≡ true → from_text (drop i lines) ≡ from_text (drop (i + 1) lines)
-from_text-skip lines i there blank = ap from_text (drop_more lines i ([], 0) there) ∙ blank_first (get_or lines i ([], 0)) (drop (i + 1) lines) blank
-
--- the text begins at one that is not
-pub from_text-here : (lines : List Line) (i : ℕ) → i < length lines → is_blank (get_or lines i ([], 0)) ≡ false → from_text (drop i lines) ≡ drop i lines
-from_text-here lines i there text =
-    let split = drop_more lines i ([], 0) there in
-    ap from_text split ∙ text_first (get_or lines i ([], 0)) (drop (i + 1) lines) text ∙ sym split
-
--- and past the last line there is none
-pub from_text-past : (lines : List Line) (i : ℕ) → length lines ≤ i → from_text (drop i lines) ≡ drop i lines
-from_text-past lines i past = let none = drop_all i lines past in ap from_text none ∙ sym none
 
 -- ---- blank lines at the end
 
@@ -82,37 +68,7 @@ module _ (lines : List Line) (start end : ℕ) (within : end ≤ length lines) w
       ∙ ap (λ n. take n (drop start lines)) (one_more some))
       ∙ ap reverse same
 
-  -- or where none is left
-  pub end-none : end ≤ start → from_text (reverse (take (end - start) (drop start lines))) ≡ from_text (reverse (drop start lines)) → take (end - start) (drop start lines) ≡ to_text (drop start lines)
-  end-none none same =
-      let nothing : end - start ≡ 0 = omega arith in
-      ap (λ n. take n (drop start lines)) nothing
-      ∙ sym (ap (λ n. reverse (from_text (reverse (take n (drop start lines))))) nothing)
-      ∙ ap reverse same
-
--- at first all are sought
-pub end-all : (lines : List Line) (start end : ℕ) → end ≡ length lines → from_text (reverse (take (end - start) (drop start lines))) ≡ from_text (reverse (drop start lines))
-end-all lines start end all = ap (λ n. from_text (reverse (take (n - start) (drop start lines)))) all ∙ ap (λ left. from_text (reverse left)) (take_rest lines start)
-
 -- ---- the lines that are shown
-
-pub range_trimmed : (lines : List Line) (first last : ℕ) → drop first lines ≡ from_text lines → take (last - first) (drop first lines) ≡ to_text (drop first lines) → first ≤ last → last ≤ length lines → last < 2 ^ 64 → IsShownRange true lines first (last - first)
-range_trimmed lines first last front back some within fits = record {
-  are = back ∙ ap to_text front;
-  within = omega arith;
-  fits = omega arith;
-}
-
-pub range_all : (lines : List Line) (count : ℕ) → count ≡ length lines → count < 2 ^ 64 → IsShownRange false lines 0 count
-range_all lines count all fits = record {
-  are = take_all count lines (omega arith);
-  within = omega arith;
-  fits = omega arith;
-}
-
-pub range_none : (trims : Bool) → IsShownRange trims [] 0 0
-range_none true = record { are = refl; within = omega arith; fits = omega arith }
-range_none false = record { are = refl; within = omega arith; fits = omega arith }
 
 -- so many are shown
 pub count_is : (trims : Bool) (lines : List Line) (first count : ℕ) → IsShownRange trims lines first count → count ≡ length (shown_lines trims lines)
@@ -148,9 +104,6 @@ no_line (line ∷ lines) none = absurd (omega arith)
 
 -- ---- a line of the place
 
-first_of : (s t : Bool) (a b c : List Piece) → s ≡ true → pieces_bytes (if s then a else (if t then b else c)) ≡ pieces_bytes a
-first_of s t a b c holds = ap (λ v. pieces_bytes (if v then a else (if t then b else c))) holds
-
 second_of : (s t : Bool) (a b c : List Piece) → s ≡ false → t ≡ true → pieces_bytes (if s then a else (if t then b else c)) ≡ pieces_bytes b
 second_of s t a b c other holds = ap (λ v. pieces_bytes (if v then a else (if t then b else c))) other ∙ ap (λ v. pieces_bytes (if v then b else c)) holds
 
@@ -158,16 +111,6 @@ third_of : (s t : Bool) (a b c : List Piece) → s ≡ false → t ≡ false →
 third_of s t a b c other neither = ap (λ v. pieces_bytes (if v then a else (if t then b else c))) other ∙ ap (λ v. pieces_bytes (if v then b else c)) neither
 
 module _ (b : contents.Block) (first count lines_above width : ℕ) (found : IsFound b first count lines_above width) where
-  -- each is a line of the cell
-  pub line_there : (k : ℕ) → k < count → first + k < length b.lines
-  line_there k shows = let w = found.shown.within in omega arith
-
-  line_is : (k : ℕ) → k < count → get_or (shown b) k ([], 0) ≡ get_or b.lines (first + k) ([], 0)
-  line_is k shows =
-      ap (λ lines. get_or lines k ([], 0)) (sym found.shown.are)
-      ∙ get_or-take count (drop first b.lines) k ([], 0) shows
-      ∙ get_or-drop first b.lines k ([], 0)
-
   -- it has room where no line is shown, or the greatest width leaves enough
   room_from : (count ≡ 0) ⊎ (width + (b.look.padding.left.size + b.look.padding.right.size) ≤ b.width) → FitsPlace b
   room_from (inl none) = inl (no_line (shown b) (sym (count_is b.look.formatting.vertical_trim b.lines first count found.shown) ∙ none))
@@ -189,16 +132,8 @@ module _ (b : contents.Block) (first count lines_above width : ℕ) (found : IsF
   abbrev below : List Piece
   below = fill Padding b.look.padding.bottom.fill b.width b.look.padding_color.bottom
 
-  is_above : (k : ℕ) → k < lines_above → nat_lt k (above b) ≡ true
-  is_above k h = lt-ltb k (above b) (subst (λ n. k < n) found.above_is h)
-
   is_not_above : (k : ℕ) → lines_above ≤ k → nat_lt k (above b) ≡ false
   is_not_above k h = le-ltb k (above b) (subst (λ n. n ≤ k) found.above_is h)
-
-  pub content-above : (k : ℕ) → k < lines_above → fill_bytes b.look.padding_color.top b.look.padding.top.fill b.width ≡ pieces_bytes (content b k)
-  content-above k h =
-      sym (first_of (nat_lt k (above b)) (nat_lt k (above b + length (shown b))) on_top (of_text k) below (is_above k h)
-      ∙ fill_is Padding b.look.padding.top.fill b.width b.look.padding_color.top)
 
   pub content-below : (k : ℕ) → lines_above ≤ k → count ≤ k - lines_above → fill_bytes b.look.padding_color.bottom b.look.padding.bottom.fill b.width ≡ pieces_bytes (content b k)
   content-below k h past =
@@ -207,15 +142,6 @@ module _ (b : contents.Block) (first count lines_above width : ℕ) (found : IsF
       let end : above b + length (shown b) ≤ k = omega arith in
       sym (third_of (nat_lt k (above b)) (nat_lt k (above b + length (shown b))) on_top (of_text k) below (is_not_above k h) (le-ltb k (above b + length (shown b)) end)
       ∙ fill_is Padding b.look.padding.bottom.fill b.width b.look.padding_color.bottom)
-
-  pub content-text : (k : ℕ) → lines_above ≤ k → k - lines_above < count → pieces_bytes (line_pieces b (shown_line b.look.formatting.horizontal_trim (get_or b.lines (first + (k - lines_above)) ([], 0)))) ≡ pieces_bytes (content b k)
-  content-text k h shows =
-      let number : count ≡ length (shown b) = count_is b.look.formatting.vertical_trim b.lines first count found.shown in
-      let at = found.above_is in
-      let end : k < above b + length (shown b) = omega arith in
-      sym (second_of (nat_lt k (above b)) (nat_lt k (above b + length (shown b))) on_top (of_text k) below (is_not_above k h) (lt-ltb k (above b + length (shown b)) end)
-      ∙ ap (λ n. pieces_bytes (line_pieces b (shown_line b.look.formatting.horizontal_trim (get_or (shown b) (k - n) ([], 0))))) (sym found.above_is)
-      ∙ ap (λ line. pieces_bytes (line_pieces b (shown_line b.look.formatting.horizontal_trim line))) (line_is (k - lines_above) shows))
 
 -- ---- a line of the text
 

@@ -1,5 +1,5 @@
 -- The first visible cell of a table that ends outside, by the anchors.
-use Rattle.std.proofs.Common.{◌≡◌, ◌∙◌, ap, sym, subst, inl, inr, ℕ, ◌+◌, ◌<◌, ◌≤◌, ◌⊎◌, true, List, Some, length, slice_get, arith}
+use Rattle.std.proofs.Common.{◌≡◌, ◌∙◌, ap, sym, subst, inl, inr, ℕ, ◌+◌, ◌<◌, ◌≤◌, List, Some, length, slice_get, arith}
 use Rattle.std.proofs.lemmas.Bool.{cases_eq, cases_lt}
 use Rattle.std.proofs.lemmas.Option.{same_Some, slice_get_within}
 use Rattle.papergrid_values.specs.Positions.{IsBefore}
@@ -12,7 +12,7 @@ use Rattle.papergrid_maps.specs.Hidden.{AreAnchorsOf}
 use Rattle.papergrid_maps.specs.declared.anchors.Anchor.{Anchor}
 use Rattle.papergrid_walk.specs.ForProofs.Shown.{Shows}
 use Rattle.papergrid_walk.specs.ForProofs.Swept.{Walk}
-use Rattle.papergrid_layout.specs.Places.{IsVisibleCell, Overflows, TableView}
+use Rattle.papergrid_layout.specs.Places.{Overflows, TableView}
 use Rattle.papergrid_draw.specs.Tiles.{AreWithin, IsTileFault, EndsOutside}
 use Rattle.papergrid_draw.specs.declared.error.DrawError.TheVariants.{OutOfTable}
 use Rattle.papergrid_draw.specs.ForProofs.Tiles.{EndInTable}
@@ -60,22 +60,6 @@ before-not-after p q (inr left) (inr right) =
 
 module _ (table : TableView) where
   -- ---- which cells end outside
-
-  abbrev IsOut : Position → Type 0
-  IsOut p = (p.row < table.shape.0) × (p.col < table.shape.1)
-      × ((table.shape.0 < p.row + table.grid.span Rows p) ⊎ (table.shape.1 < p.col + table.grid.span Columns p))
-
-  pub ends_outside-out : (p : Position) → EndsOutside table p → IsOut p
-  ends_outside-out p over = (over.0.row_in, over.0.col_in, by_direction over.1 over.2)
-    where
-      by_direction : (d : Direction) → Overflows table p d → (table.shape.0 < p.row + table.grid.span Rows p) ⊎ (table.shape.1 < p.col + table.grid.span Columns p)
-      by_direction Columns out = inr out
-      by_direction Rows out = inl out
-
-  pub out-ends_outside : (p : Position) → table.grid.shows p ≡ true → IsOut p → EndsOutside table p
-  out-ends_outside p shown out =
-      let cell : IsVisibleCell table p = record { visible = shown; row_in = out.0; col_in = out.1 } in
-      elim (out.2) [ inl down ↦ (cell, Rows, down) | inr across ↦ (cell, Columns, across) ]
 
   -- such a cell has an anchor
   over-anchor : (anchors : List Anchor) (p : Position) → AreAnchorsOf table.grid anchors → EndsOutside table p → HasAnchor anchors p

@@ -37,7 +37,7 @@ cut-utf8 line rest utf8 =
     }
 
 -- the lines of a text that is UTF-8 are
-parts-utf8 : (parts : List (List ℕ)) → IsUtf8 (join_with_byte 10 parts) → All IsUtf8 parts
+pub parts-utf8 : (parts : List (List ℕ)) → IsUtf8 (join_with_byte 10 parts) → All IsUtf8 parts
 parts-utf8 [] utf8 = All-nil IsUtf8
 parts-utf8 (part ∷ []) utf8 = All-cons IsUtf8 part [] utf8 (All-nil IsUtf8)
 parts-utf8 (part ∷ next ∷ more) utf8 =

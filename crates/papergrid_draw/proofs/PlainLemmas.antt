@@ -25,7 +25,7 @@ use Rattle.papergrid_layout.specs.Tables.{TableParts}
 use Rattle.papergrid_draw.specs.Bytes.{piece_bytes, pieces_bytes}
 use Rattle.papergrid_draw.specs.Characters.{vertical, vertical_character, vertical_color}
 use Rattle.papergrid_draw.specs.Contents as contents
-use Rattle.papergrid_draw.specs.Contents.{block_at, content, look_of}
+use Rattle.papergrid_draw.specs.Contents.{block_at, content}
 use Rattle.papergrid_draw.specs.Drawings.{Drawing, layout_of}
 use Rattle.papergrid_draw.specs.Drawn.{after_these, column_pieces, content_from, draws_vertical, owner_at, stands_over, stands_over_crossing, vertical_pieces}
 use Rattle.papergrid_draw.specs.Pieces.{Line, fill_text}
@@ -85,17 +85,6 @@ module _ (d : Drawing) (plain : IsPlain d.config) where
   plain-height p =
       ap (λ n. extent (track_size (layout_of d) Rows) (track_line (layout_of d) Rows) p.row n) (plain-single d.config plain Rows p)
       ∙ extent-one (track_size (layout_of d) Rows) (track_line (layout_of d) Rows) p.row
-
-  -- what is made of what is read of a cell is that cell
-  pub plain-block : (p : Position) (made : contents.Block) → made.look ≡ look_of d.config p → made.lines ≡ d.lines p → made.color ≡ d.color p →
-      made.width ≡ d.widths p.col → made.height ≡ d.heights p.row → made ≡ block_at d p
-  plain-block p made look lines color width height = λ i. record {
-    look = look i;
-    lines = lines i;
-    color = color i;
-    width = (width ∙ sym (plain-width p)) i;
-    height = (height ∙ sym (plain-height p)) i;
-  }
 
   -- it ends within the table
   pub plain-inside : (p : Position) → p.row < d.shape.0 → p.col < d.shape.1 → IsInsideTable (layout_of d) p

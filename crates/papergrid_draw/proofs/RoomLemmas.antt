@@ -1,11 +1,11 @@
 -- Which cells of a table have room, by row and then by column.
-use Rattle.std.proofs.Common.{◌≡◌, ℕ, ◌+◌, ◌<◌, Bool, true, false, if◌then◌else◌, is_some, inl, inr, Option, Some, None, subst, arith}
+use Rattle.std.proofs.Common.{◌≡◌, ℕ, ◌+◌, Bool, true, false, if◌then◌else◌, is_some, inl, inr, Option, Some, None, subst, arith}
 use Rattle.std.proofs.lemmas.Bool.{cases_lt}
-use Rattle.papergrid_values.specs.Positions.{IsBefore, position_of}
+use Rattle.papergrid_values.specs.Positions.{position_of}
 use Rattle.papergrid_values.specs.declared.direction.Direction.TheVariants.{Columns, Rows}
 use Rattle.papergrid_values.specs.declared.position.Position.{Position}
 use Rattle.papergrid_layout.specs.Places.{IsInsideTable, IsVisibleCell, TableView}
-use Rattle.papergrid_layout.proofs.PlacingLemmas.{before-next}
+use Rattle.papergrid_layout.proofs.PlacingLemmas.{before-next, before-turn}
 use Rattle.papergrid_draw.specs.Drawings.{Drawing}
 use Rattle.papergrid_draw.specs.Faults.{AllHaveRoom, HasNoRoom}
 use Rattle.papergrid_draw.specs.Tiles.{IsFirstPosition, IsTiled}
@@ -31,21 +31,11 @@ shown-of true x found is e some = subst (λ o. is_some o ≡ is) e some
 shown-of false x found is e some = subst (λ o. is_some o ≡ is) e some
 
 module _ (d : Drawing) where
-  pub room-none : HaveRoomBefore d 0 0
-  room-none = λ q before none. elim before [ inl l ↦ omega (arith, l) | inr l ↦ let l' = l.1 in omega (arith, l') ]
-
   pub room-more : (r c : ℕ) → HaveRoomBefore d r c → (HasNoRoom d (position_of (r, c)) → ⊥) → HaveRoomBefore d r (c + 1)
   room-more r c so_far here = λ q before none. elim (before-next q r c before) [
     | inl earlier ↦ so_far q earlier none
     | inr same ↦ here (subst (HasNoRoom d) same none)
   ]
-
-  before-turn : (q : Position) (r c : ℕ) → q.col < c → IsBefore q (position_of (r + 1, 0)) → IsBefore q (position_of (r, c))
-  before-turn q r c in_row (inl above) = elim (cases_lt q.row r) [
-    | inl l ↦ inl l
-    | inr ge ↦ let l : q.row < r + 1 = above in inr (omega arith, in_row)
-  ]
-  before-turn q r c in_row (inr left) = let l : q.col < 0 = left.1 in absurd (omega arith)
 
   -- after a row comes the next one
   pub room-turn : (r c : ℕ) → c ≡ d.shape.1 → HaveRoomBefore d r c → HaveRoomBefore d (r + 1) 0

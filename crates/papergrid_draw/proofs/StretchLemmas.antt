@@ -6,10 +6,9 @@ use Rattle.std.proofs.lemmas.Bool.{and_from}
 use Rattle.std.proofs.lemmas.Cmp.{nat_list_eq_equiv}
 use Rattle.std.proofs.lemmas.List.{append-nil}
 use Rattle.papergrid_values.specs.Colors.{same_texts}
-use Rattle.papergrid_draw.specs.Bytes.{mark_bytes, pieces_bytes, prefix_of, rule_bytes, stretch_bytes, stretches_bytes, suffix_of, switch, used_after, used_at_end}
+use Rattle.papergrid_draw.specs.Bytes.{mark_bytes, prefix_of, rule_bytes, stretch_bytes, stretches_bytes, suffix_of, switch, used_after, used_at_end}
 use Rattle.papergrid_draw.specs.Characters.{Mark}
-use Rattle.papergrid_draw.specs.Drawn.{OnLine, Over, Stretch}
-use Rattle.papergrid_draw.specs.Pieces.{Piece}
+use Rattle.papergrid_draw.specs.Drawn.{OnLine, Stretch}
 use Rattle.papergrid_draw.specs.ForProofs.Pens.{AddsStretches}
 
 pub stretches_bytes-append : (used : Option (List ℕ × List ℕ)) (xs ys : List Stretch)
@@ -35,18 +34,6 @@ module _ {first middle last : Option (List ℕ × List ℕ)} {before between aft
         ∙ append_assoc before (stretches_bytes first xs) (stretches_bytes (used_at_end first xs) ys)
         ∙ ap (λ bytes. before ++ bytes) (sym (stretches_bytes-append first xs ys));
     used = more.used ∙ ap (λ used. used_at_end used ys) one.used ∙ sym (used_at_end-append first xs ys);
-  }
-
-module _ {used new : Option (List ℕ × List ℕ)} {before between after : List ℕ} where
-  -- the line of a cell that stands over the line, after the end of the colour in use
-  pub over_added : (pieces : List Piece) → between ≡ before ++ suffix_of used → after ≡ between ++ pieces_bytes pieces → new ≡ None
-      → AddsStretches used new before after (Over pieces ∷ [])
-  over_added pieces ended added none = record {
-    bytes = added
-        ∙ ap (λ bytes. bytes ++ pieces_bytes pieces) ended
-        ∙ append_assoc before (suffix_of used) (pieces_bytes pieces)
-        ∙ ap (λ bytes. before ++ bytes) (sym (append-nil (suffix_of used ++ pieces_bytes pieces)));
-    used = none;
   }
 
 -- all stretches of a horizontal line, and the end of the colour in use

@@ -173,12 +173,6 @@ module _ (table : TableView) (tiled : IsTiled table) where
       let found = has-owner q inside in
       subst (HasOwner table q) (same_Some found.0 p (sym found.1.is ∙ is)) found.1
 
-  -- both of its spans are at least 1
-  pub owner-spans : (q p : Position) → HasOwner table q p → (1 ≤ table.grid.span Columns p) × (1 ≤ table.grid.span Rows p)
-  owner-spans q p has =
-      let covers = has.owns.covers in
-      (omega (arith, covers.after_left, covers.before_right), omega (arith, covers.below_top, covers.above_bottom))
-
   -- ---- the owner of a position by those above and left of it
 
   -- that of the position above, if its cell reaches the row
@@ -368,6 +362,3 @@ module _ (table : TableView) (anchors : List Anchor) (empty : anchors ≡ []) (a
 
   pub bare-tiled : IsTiled table
   bare-tiled = single-tiled table bare-shown bare-single
-
-  pub bare-owner : (q : Position) → owner table q ≡ Some q
-  bare-owner = single-owner table bare-shown bare-single

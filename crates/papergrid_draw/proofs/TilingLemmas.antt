@@ -1,8 +1,8 @@
 -- A walk over the positions of a table that checks that each has just one owner, step by step.
-use Rattle.std.proofs.Common.{◌≡◌, ◌≢◌, ◌∙◌, ap, sym, subst, refl, inl, inr, ℕ, ◌+◌, ◌<◌, ◌≤◌, ◌⊎◌, Bool, true, false, None, Some, List, length, replicate, set, arith}
+use Rattle.std.proofs.Common.{◌≡◌, ◌≢◌, ◌∙◌, ap, sym, subst, refl, inl, inr, ℕ, ◌+◌, ◌<◌, ◌≤◌, ◌⊎◌, Bool, true, false, None, Some, List, replicate, arith}
 use Rattle.std.specs.Prelude.{if◌then◌else◌, slice_index}
-use Rattle.std.proofs.lemmas.Bool.{cases_eq, cases_lt, false≢true}
-use Rattle.std.proofs.lemmas.List.{get_or-replicate, get_or-set_other, get_or-set_same, length-replicate, length-set}
+use Rattle.std.proofs.lemmas.Bool.{cases_eq, cases_lt}
+use Rattle.std.proofs.lemmas.List.{get_or-replicate, length-replicate}
 use Rattle.std.proofs.lemmas.Option.{none-some, same_Some}
 use Rattle.papergrid_values.specs.Positions.{IsBefore, position_of}
 use Rattle.papergrid_values.specs.declared.direction.Direction.TheVariants.{Columns, Rows}
@@ -19,6 +19,7 @@ use Rattle.papergrid_draw.specs.Tiles.{AreWithin, IsTablePosition, IsOwnedOnce, 
 use Rattle.papergrid_draw.specs.declared.error.DrawError.TheVariants.{NotTiled}
 use Rattle.papergrid_draw.specs.declared.tiles.Tiling.{Tiling}
 use Rattle.papergrid_draw.specs.ForProofs.Tiles.{AreFree, AreOwnedBefore, AreRaised, HasTiled, IsOwnedUntil, IsUntil, OwnsBefore}
+use Rattle.papergrid_layout.proofs.PlacingLemmas.{before-step, before-turn}
 
 -- ---- order
 
@@ -26,13 +27,9 @@ pub not-before : (p : Position) → IsBefore p p → ⊥
 not-before p (inl above) = omega (arith, above)
 not-before p (inr left) = let l : p.col < p.col = left.1 in omega arith
 
-none-first : (p : Position) → IsBefore p (position_of (0, 0)) → ⊥
+pub none-first : (p : Position) → IsBefore p (position_of (0, 0)) → ⊥
 none-first p (inl above) = omega (arith, above)
 none-first p (inr left) = let l : p.col < 0 = left.1 in omega arith
-
-before-more : (p : Position) (r c : ℕ) → IsBefore p (position_of (r, c)) → IsBefore p (position_of (r, c + 1))
-before-more p r c (inl above) = inl above
-before-more p r c (inr left) = inr (left.0, let l : p.col < c = left.1 in omega arith)
 
 -- what stands before column d stands before column c, or in the columns between
 before-split : (p : Position) (r c d : ℕ) → IsBefore p (position_of (r, d)) → IsBefore p (position_of (r, c)) ⊎ ((p.row ≡ r) × (c ≤ p.col) × (p.col < d))
@@ -50,14 +47,6 @@ before-next p r c before = elim (before-split p r c (c + 1) before) [
       inr (position-same p (position_of (r, c)) same.0 (omega arith)))
 ]
 
--- what stands before the next row and covers it stands in the columns before its own
-before-turn : (p : Position) (r c : ℕ) → p.col < c → IsBefore p (position_of (r + 1, 0)) → IsBefore p (position_of (r, c))
-before-turn p r c in_row (inl above) = elim (cases_lt p.row r) [
-  | inl l ↦ inl l
-  | inr ge ↦ let l : p.row < r + 1 = above in inr (omega arith, in_row)
-]
-before-turn p r c in_row (inr left) = let l : p.col < 0 = left.1 in absurd (omega arith)
-
 -- ---- what a position hides
 
 -- a visible position lies in no rectangle of another
@@ -70,42 +59,6 @@ hides grid anchors p q are other within shown =
 found-shown : {A : Type 0} (shows : Bool) (x found : A) → Some found ≡ (if shows then Some x else None) → (shows ≡ true) × (found ≡ x)
 found-shown true x found e = (refl, same_Some found x e)
 found-shown false x found e = absurd (none-some found (sym e))
-
-pub found-hidden : {A : Type 0} (shows : Bool) (x : A) → None ≡ (if shows then Some x else None) → shows ≡ false
-found-hidden true x e = absurd (none-some x e)
-found-hidden false x e = refl
-
--- ---- the numbers of columns
-
-pub free-none : (until : List ℕ) (row start : ℕ) → AreFree until row start start
-free-none until row start k from to = absurd (omega (arith, from, to))
-
-pub free-more : (until : List ℕ) (row start column : ℕ) → AreFree until row start column → slice_index until column ≤ row → AreFree until row start (column + 1)
-free-more until row start column free past k from to = elim (cases_lt k column) [
-  | inl before ↦ free k from before
-  | inr after ↦ (let same : k ≡ column = omega (arith, to) in subst (λ j. slice_index until j ≤ row) (sym same) past)
-]
-
-pub raised-none : (until : List ℕ) (start end : ℕ) → AreRaised until until start start end
-raised-none until start end = record {
-  each = refl;
-  inside = λ k from to. absurd (omega (arith, from, to));
-  outside = λ k side. refl;
-}
-
-pub raised-more : (old new : List ℕ) (start column end : ℕ) → start ≤ column → column < length new → AreRaised old new start column end →
-    AreRaised old (set new column end) start (column + 1) end
-raised-more old new start column end from below raised = record {
-  each = length-set new column end ∙ raised.each;
-  inside = λ k first last. elim (cases_eq k column) [
-    | inl same ↦ ap (slice_index (set new column end)) same ∙ get_or-set_same new column end 0 below
-    | inr apart ↦ get_or-set_other new column k end 0 apart ∙ raised.inside k first (omega (arith, last, apart))
-  ];
-  outside = λ k side.
-      let apart : k ≢ column = λ same. elim side [ inl left ↦ omega (arith, left, same) | inr right ↦ omega (arith, right, same) ] in
-      get_or-set_other new column k end 0 apart
-      ∙ raised.outside k (elim side [ inl left ↦ inl left | inr right ↦ inr (omega (arith, right)) ]);
-}
 
 -- ---- the walk
 
@@ -275,7 +228,7 @@ module _ (table : TableView) where
             | inr some ↦ inr (
               some.0,
               record {
-                it = record { owns = some.1.it.owns; before = before-more some.0 r c some.1.it.before };
+                it = record { owns = some.1.it.owns; before = before-step some.0 r c some.1.it.before };
                 ends = some.1.ends;
                 alone = λ other owns. some.1.alone other (back d other owns);
               },
@@ -348,7 +301,7 @@ module _ (table : TableView) where
           | inr some ↦ inr (
             some.0,
             record {
-              it = record { owns = some.1.it.owns; before = before-more some.0 r c some.1.it.before };
+              it = record { owns = some.1.it.owns; before = before-step some.0 r c some.1.it.before };
               ends = some.1.ends;
               alone = λ other owns. some.1.alone other (out d side other owns);
             },
@@ -378,25 +331,6 @@ module _ (table : TableView) where
                 subst (IsOwnedOnce table) (sym same) (here, alone.0, alone.1))
           ];
         }
-
-    -- a hidden position that no cell before it covers is the first that is covered by none
-    pub fault-none : (r c : ℕ) (until : List ℕ) → let here = position_of (r, c) in
-        IsTablePosition table here → AreWithin table → table.grid.shows here ≡ false → slice_index until c ≤ r →
-        AreOwnedBefore table r c until → IsTileFault table (NotTiled here)
-    fault-none r c until inside within hidden past owned =
-        let here = position_of (r, c) in (
-          within,
-          record {
-            it = (
-              inside,
-              λ once. elim (before-next once.0 r c (covers-before once.0 r c once.1)) [
-                | inl before ↦ until-none r c c (slice_index until c) (owned.are c inside.1) past once.0 (record { owns = once.1; before = before })
-                | inr same ↦ false≢true (sym hidden ∙ subst (λ q. table.grid.shows q ≡ true) same once.1.visible)
-              ],
-            );
-            earlier = λ q before untiled. untiled.1 (owned.once q untiled.0 before);
-          },
-        )
 
     -- the first column of a visible cell that a cell before it covers is the first that is covered by two
     pub fault-two : (r c d : ℕ) (until : List ℕ) → let here = position_of (r, c) in

@@ -19,7 +19,7 @@ use Rattle.papergrid_draw.specs.Characters.{crossing_character}
 use Rattle.papergrid_draw.specs.Drawings.{Drawing}
 use Rattle.papergrid_draw.specs.Drawn.{draws_horizontal, draws_vertical, owner_at}
 use Rattle.papergrid_draw.specs.Tiles.{owner}
-use Rattle.papergrid_draw.proofs.TilingLemmas.{not-before}
+use Rattle.papergrid_draw.proofs.TilingLemmas.{none-first, not-before}
 use Rattle.papergrid_grid.specs.Crossings.{BecomesBy, FitCrossings, IsSeenCrossing, SetsCrossing, bare_drawing, junction, junction_at}
 use Rattle.papergrid_grid.specs.ForProofs.Crossings.{AreFittedBefore, FitsAlready, HasMark, IsMark, mark_at, marked_character, setting_of}
 use Rattle.papergrid_grid.specs.declared.crossings.Junctions.{Junctions}
@@ -112,10 +112,6 @@ before-next : (r c i j : ℕ) → IsBefore (position_of (r, c)) (position_of (i,
 before-next r c i j (inl above) = inl (inl above)
 before-next r c i j (inr left) = let l : c < j + 1 = left.1 in
     elim (cases_lt c j) [ inl less ↦ inl (inr (left.0, less)) | inr from ↦ inr (left.0, omega arith) ]
-
-none-first : (p : Position) → IsBefore p (position_of (0, 0)) → ⊥
-none-first p (inl above) = omega (arith, above)
-none-first p (inr left) = let l : p.col < 0 = left.1 in omega arith
 
 none-yet : (P : Position × ℕ → Type 0) → All P []
 none-yet P k d within = absurd (omega (arith, within))

@@ -174,18 +174,6 @@ module _ {W : Type 0} (contents : W → Option (List ℕ)) (has_failed has_stall
       has_room layout_errors.TooLarge p is = cc
       has_room (layout_errors.Memory e) p is = cc
 
-  -- memory failed before anything was written
-  pub no-memory : (w : W) (e : AllocError) →
-      IsUndrawn contents has_failed has_stalled (IsDrawingWith columns texts sizing config) (IsFaultWith columns texts sizing config) text_of w w (draw_errors.Memory e)
-  no-memory w e = record {
-    fault = λ is. absurd is;
-    nothing = λ is. absurd is;
-    beginning = inl refl;
-    write = λ is. absurd (let none : ⊥ = cc in none);
-    steady = inr (refl, refl);
-    room = λ p is. cc;
-  }
-
   -- there are, and it was drawn with them, or not
   pub drawn-so : {A : Type 0} (d : Drawing) → IsDrawingWith columns texts sizing config d → (old new : W) (result : Result A DrawError) →
       OnOk result (Appends (contents old) (contents new) (text_of d)) → OnOk result (has_failed new ≡ has_failed old) → OnOk result (has_stalled new ≡ has_stalled old) →

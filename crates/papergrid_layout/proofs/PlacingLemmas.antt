@@ -1,7 +1,7 @@
 -- What is known of the listed places, step by step.
 use Rattle.std.proofs.Common.{◌≡◌, ◌∙◌, ℕ, ◌+◌, ◌<◌, ◌≤◌, ◌^◌, ◌⊎◌, Bool, true, false, inl, inr, List, [], ◌∷◌, ◌++◌, None, Some, refl, sym, ap, subst, arith}
 use Rattle.std.specs.Prelude.{All, Contains, Err, if◌then◌else◌}
-use Rattle.std.proofs.lemmas.Bool.{cases_lt, false≢true}
+use Rattle.std.proofs.lemmas.Bool.{cases_lt}
 use Rattle.std.proofs.lemmas.List.Elements.{All-append, All-cons, All-contains, All-nil, All-weaker, Contains-append_left, Contains-push}
 use Rattle.std.proofs.lemmas.List.Quantifiers.{all_pairs_push}
 use Rattle.std.proofs.lemmas.Option.{none-some}
@@ -101,11 +101,11 @@ before-next p r c (inr left) = elim (cases_lt p.col c) [
   | inr ge ↦ let l : p.col < c + 1 = left.1 in inr (position-same p (position_of (r, c)) left.0 (omega arith))
 ]
 
-before-row : (p : Position) (r c : ℕ) → IsBefore p (position_of (r, c)) → IsBefore p (position_of (r + 1, 0))
+pub before-row : (p : Position) (r c : ℕ) → IsBefore p (position_of (r, c)) → IsBefore p (position_of (r + 1, 0))
 before-row p r c (inl above) = let l : p.row < r = above in inl (omega arith)
 before-row p r c (inr left) = let e : p.row ≡ r = left.0 in inl (omega arith)
 
-before-turn : (p : Position) (r c : ℕ) → p.col < c → IsBefore p (position_of (r + 1, 0)) → IsBefore p (position_of (r, c))
+pub before-turn : (p : Position) (r c : ℕ) → p.col < c → IsBefore p (position_of (r + 1, 0)) → IsBefore p (position_of (r, c))
 before-turn p r c in_row (inl above) = elim (cases_lt p.row r) [
   | inl l ↦ inl l
   | inr ge ↦ let l : p.row < r + 1 = above in inr (omega arith, in_row)

@@ -1,6 +1,6 @@
 -- The anchors that both directions hold, after a change of one direction, and what their rectangles reach.
 use Rattle.std.proofs.Common.{◌≡◌, ℕ, ◌+◌, ◌-◌, ◌<◌, true, false, cond, ◌&&◌, ltb, [], Option, Some, None, refl, sym, ap, subst, ◌∙◌, arith}
-use Rattle.std.specs.Prelude.{◌↔◌, is_some, unwrap_or}
+use Rattle.std.specs.Prelude.{◌↔◌, unwrap_or}
 use Rattle.std.specs.BTreeMap.{BTreeMap, IsOrdered, get as tree_get, is_at}
 use Rattle.std.specs.BTreeMap.Range.{entries_between}
 use Rattle.std.specs.Cmp.{eq_by_cmp_equiv}
@@ -9,20 +9,18 @@ use Rattle.std.specs.Map.{lookup}
 use Rattle.std.specs.List.{list_any}
 use Rattle.std.specs.Ordering.{eq_by_cmp}
 use Rattle.std.specs.declared.ops.Bound.TheVariants.{Excluded, Unbounded}
-use Rattle.std.proofs.lemmas.Bool.{and_from, and_parts, false≢true, ltb-true, lt-ltb}
+use Rattle.std.proofs.lemmas.Bool.{and_from, and_parts, ltb-true, lt-ltb}
 use Rattle.papergrid_values.specs.declared.direction.Direction.{Direction}
 use Rattle.papergrid_values.specs.declared.direction.Direction.TheVariants.{Columns}
 use Rattle.papergrid_values.specs.declared.position.Position.{Position}
 use Rattle.papergrid_values.specs.MapKeys.{position_cmp}
+use Rattle.papergrid_values.proofs.EntryLemmas.{none_is_not_some}
 use Rattle.papergrid_values.proofs.KeyLemmas.{exact_position_eq, exact_positions, position_ties, position_total}
 use Rattle.papergrid_maps.specs.ForProofs.SpanIndex.{DirectedSpans, HoldsBoth, IsReachedByBoth, extent_stored, extent_of}
 use Rattle.papergrid_maps.specs.Spans.{IsCoveredByBoth, Spans, span_along}
 use Rattle.papergrid_maps.specs.declared.span_index.Extent.{Extent}
 use Rattle.papergrid_maps.proofs.IndexRanges.{any_between, is_above, of_above}
 use Rattle.papergrid_maps.proofs.IndexReached.{stored_above_one}
-
-none_is_not_some : {X : Type 0} {x : X} → ◌≡◌ {A = Option X} None (Some x) → ⊥
-none_is_not_some e = false≢true (ap is_some e)
 
 same_some : {X : Type 0} (x y : X) → ◌≡◌ {A = Option X} (Some x) (Some y) → x ≡ y
 same_some x y e = ap (λ o. unwrap_or o x) e

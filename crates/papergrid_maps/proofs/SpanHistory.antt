@@ -15,8 +15,10 @@ use Rattle.papergrid_values.specs.declared.direction.Direction.TheVariants.{Colu
 use Rattle.papergrid_values.specs.History.{AppendsHistory}
 use Rattle.papergrid_maps.specs.Spans.{Spans, SpanCall, RemoveSpans, HasSpan, HasSpanHistory, spans_along, span_from, from_two}
 use Rattle.papergrid_maps.specs.ForProofs.SpanIndex.{AreFromTwo, stored_along, key_of, span_set}
+use Rattle.papergrid_values.proofs.EntryLemmas.{none_is_not_some}
 use Rattle.papergrid_values.proofs.KeyLemmas.{position_equiv, position_ties, position_total}
 use Rattle.papergrid_maps.proofs.IndexKeys.{stored_at, key_key}
+use Rattle.papergrid_maps.proofs.SpanVisible.{not_true}
 
 newest : (calls : List SpanCall) (call : SpanCall) → reverse (calls ++ call ∷ []) ≡ call ∷ reverse calls
 newest calls call = reverse-append calls (call ∷ [])
@@ -24,9 +26,6 @@ newest calls call = reverse-append calls (call ∷ [])
 pub new_history : HasSpanHistory [] (record { columns = empty; rows = empty })
 new_history Columns p = get-empty position_cmp p
 new_history Rows p = get-empty position_cmp p
-
-none_is_not_some : {X : Type 0} {x : X} → ◌≡◌ {A = Option X} None (Some x) → ⊥
-none_is_not_some e = false≢true (ap is_some e)
 
 same_some : (m n : ℕ) → ◌≡◌ {A = Option ℕ} (Some m) (Some n) → m ≡ n
 same_some m n e = ap (λ o. unwrap_or o m) e
@@ -37,11 +36,6 @@ history_step : (old new : Spans) (call : SpanCall)
     → AppendsHistory HasSpanHistory old new (call ∷ [])
 history_step old new call step calls told d p =
     step d p (reverse calls) (told d p) ∙ ap (λ xs. from_two (span_from d p xs)) (sym (newest calls call))
-
--- the span of a position is stored where it is 2 or more, whichever it is
-either : (b : Bool) (m n : ℕ) → cond b (from_two m) (from_two n) ≡ from_two (cond b m n)
-either true m n = refl
-either false m n = refl
 
 module _ (q : Position) (n : ℕ) (old new : FinMap position_cmp ℕ) (changed : (p : Position) → get new p ≡ span_set q n p (get old p)) where
   -- no span below 2 comes to be stored
@@ -96,17 +90,13 @@ history_remove_rows columns rows = history_step _ _ (RemoveSpans Rows) (λ d p o
 pub none_from_two : AreFromTwo empty
 none_from_two p n is = absurd (none_is_not_some (sym (get-empty position_cmp p) ∙ is))
 
-not_both : (b : Bool) → not b ≡ true → b ≡ true → ⊥
-not_both true h e = false≢true h
-not_both false h e = false≢true e
-
 no_length : {n : ℕ} → suc n ≡ 0 → ⊥
 no_length h = omega (arith, h)
 
 -- an index with entries has a span
 pub has_span : (d : Direction) (es : List (Position × ℕ)) (b : Bool) → (IsTrue b ↔ (length es ≡ 0)) → IsTrue (not b) ↔ HasSpan (stored_along d es)
 has_span d [] b empty = (
-  (λ h. absurd (not_both b h (empty.1 refl))),
+  (λ h. absurd (not_true b h (empty.1 refl))),
   (λ has. absurd (false≢true (subst (λ o. is_some o ≡ true) (stored_at d [] has.0) has.1))),
 )
 has_span d (e ∷ es) b empty = (

@@ -31,7 +31,7 @@ tests_rectangle span anchor p within =
     and_from _ _ (le-leb _ _ within.below_top) (and_from _ _ (lt-ltb _ _ within.above_bottom)
     (and_from _ _ (le-leb _ _ within.after_left) (lt-ltb _ _ within.before_right)))
 
-not_true : (b : Bool) → not b ≡ true → b ≡ true → ⊥
+pub not_true : (b : Bool) → not b ≡ true → b ≡ true → ⊥
 not_true true h e = false≢true h
 not_true false h e = false≢true e
 

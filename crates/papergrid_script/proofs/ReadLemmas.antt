@@ -1,8 +1,9 @@
 -- What is read as a line of a script is spelled so.
-use Rattle.std.proofs.Common.{◌≡◌, ◌⊎◌, ◌<◌, ◌^◌, ◌&&◌, ◌++◌, ◌∷◌, [], ℕ, List, Bool, true, false, cond, Option, Some, None, option_map, length, drop, get_or, codes, bytes_eq, nat_eq, refl, sym, ap, ◌∙◌, subst, lit<, inl, inr}
+use Rattle.std.proofs.Common.{◌≡◌, ◌⊎◌, ◌<◌, ◌^◌, ◌++◌, ◌∷◌, [], ℕ, List, true, cond, Option, Some, None, option_map, length, drop, get_or, codes, bytes_eq, nat_eq, refl, sym, ap, ◌∙◌, subst, lit<, inl, inr}
 use Rattle.std.specs.List.{starts_with, before_first, after_first, position_or_len}
 use Rattle.std.specs.Prelude.{IsUtf8}
 use Rattle.std.specs.Str.{is_utf8}
+use Rattle.std.proofs.lemmas.Bool.{and_parts}
 use Rattle.std.proofs.lemmas.List.Sums.{split_at_first, passes_at_first}
 use Rattle.std.proofs.lemmas.Option.{same_Some, none-some, cond_some}
 use Rattle.std.proofs.lemmas.Slice.Eq.{bytes_eq-Decides}
@@ -22,18 +23,11 @@ use Rattle.papergrid_script.specs.Grammar.{◌>>=◌, Said, Nothing, Columns, Se
 use Rattle.papergrid_script.specs.Spelling.{IsNumber, IsPosition, IsEntity, AreSides, IsCharacter, IsSetting, Pad, Colspan, Rowspan, Border, Vline, Hline, Novline, Nohline, Means, Ended, Plain, Newline, Tab, Backslash, IsLine}
 use Rattle.papergrid_script.proofs.CharacterLemmas.{character_read, text_behind}
 use Rattle.papergrid_script.specs.Texts.{unescaped, escape_of, put_first}
+use Rattle.papergrid_config.proofs.EffectiveCallLemmas.{chosen}
 
 -- ---- tests and options
 
-and_true : (a b : Bool) → a && b ≡ true → (a ≡ true) × (b ≡ true)
-and_true true b h = (refl, h)
-and_true false b h = cc
-
-pub chosen : {A : Type 0} (b : Bool) (x y z : A) → cond b x y ≡ z → ((b ≡ true) × (x ≡ z)) ⊎ ((b ≡ false) × (y ≡ z))
-chosen true x y z h = inl (refl, h)
-chosen false x y z h = inr (refl, h)
-
-map_some : {A B : Type 0} (f : A → B) (o : Option A) (y : B) → option_map f o ≡ Some y → (x : A) × (o ≡ Some x) × (f x ≡ y)
+pub map_some : {A B : Type 0} (f : A → B) (o : Option A) (y : B) → option_map f o ≡ Some y → (x : A) × (o ≡ Some x) × (f x ≡ y)
 map_some f None y h = cc
 map_some f (Some x) y h = (x, refl, same_Some _ _ h)
 
@@ -82,8 +76,8 @@ pub number_read : (digits : List ℕ) (n : ℕ) → number_said digits ≡ Some 
 unfolding number_said
 number_read digits n h =
     let parts = cond_some _ _ _ h in
-    let both = and_true _ _ parts.0 in
-    let front = and_true _ _ both.0 in
+    let both = and_parts _ _ parts.0 in
+    let front = and_parts _ _ both.0 in
     record {
       digits_alone = front.0;
       some = ltb-true _ _ front.1;
@@ -93,7 +87,7 @@ number_read digits n h =
 
 starts_one : (c : ℕ) (bs : List ℕ) → starts_with nat_eq bs (c ∷ []) ≡ true → bs ≡ c ∷ drop 1 bs
 starts_one c [] h = cc
-starts_one c (b ∷ bs) h = ap (λ x. x ∷ bs) (sym (eqb-true c b (and_true _ _ h).0))
+starts_one c (b ∷ bs) h = ap (λ x. x ∷ bs) (sym (eqb-true c b (and_parts _ _ h).0))
 
 -- the cell at a position
 abbrev pub cell_at : Position → Entity

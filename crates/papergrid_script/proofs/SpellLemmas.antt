@@ -1,8 +1,9 @@
 -- What is spelled as the grammar says is read.
-use Rattle.std.proofs.Common.{◌≡◌, ◌<◌, ◌^◌, ◌+◌, ◌&&◌, Bool, ◌++◌, ◌∷◌, [], ℕ, suc, List, true, false, not, Some, option_map, length, drop, codes, nat_eq, nat_lt, refl, sym, ap, ◌∙◌, subst, arith, length-append, lit<, inl, inr}
+use Rattle.std.proofs.Common.{◌≡◌, ◌<◌, ◌^◌, ◌+◌, ◌++◌, ◌∷◌, [], ℕ, suc, List, true, false, not, Some, option_map, length, drop, codes, nat_eq, nat_lt, refl, sym, ap, ◌∙◌, subst, arith, length-append, lit<, inl, inr}
 use Rattle.std.specs.List.{list_all, position_or_len}
 use Rattle.std.specs.Str.{all_ascii_digits}
 use Rattle.std.specs.Str.Parse.{digits_value}
+use Rattle.std.proofs.lemmas.Bool.{and_parts}
 use Rattle.std.proofs.lemmas.Str.Parse.{tells_all_ascii_digits}
 use Rattle.std.proofs.lemmas.Bool.Decides.{nat_tests}
 use Rattle.std.specs.Prelude.{IsUtf8}
@@ -24,10 +25,6 @@ use Rattle.papergrid_script.proofs.CharacterLemmas.{character_spelled}
 use Rattle.papergrid_script.proofs.ReadLemmas.{cell_at}
 use Rattle.papergrid_script.specs.Texts.{unescaped, put_first}
 
-and_true : (a b : Bool) → a && b ≡ true → (a ≡ true) × (b ≡ true)
-and_true true b h = (refl, h)
-and_true false b h = cc
-
 -- a byte that does not stand in a word
 abbrev lacks : ℕ → List ℕ → Type 0
 lacks c word = list_all (λ b. not (nat_eq b c)) word ≡ true
@@ -37,7 +34,7 @@ lacks c word = list_all (λ b. not (nat_eq b c)) word ≡ true
 place_after : (c : ℕ) (word rest : List ℕ) → lacks c word → position_or_len (λ b. nat_eq b c) (word ++ c ∷ rest) ≡ length word
 place_after c [] rest none = let here : nat_eq c c ≡ true = eq-eqb c c refl in rw here refl
 place_after c (b ∷ word) rest none =
-    let both = and_true (not (nat_eq b c)) (list_all (λ x. not (nat_eq x c)) word) none in
+    let both = and_parts (not (nat_eq b c)) (list_all (λ x. not (nat_eq x c)) word) none in
     let other : not (nat_eq b c) ≡ true = both.0 in
     let later : position_or_len (λ b. nat_eq b c) (word ++ c ∷ rest) ≡ length word = place_after c word rest both.1 in
     rw other (omega (arith, later))

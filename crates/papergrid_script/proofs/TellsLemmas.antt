@@ -9,6 +9,7 @@ use borrow.Author.Tests.{lt-ltb}
 use Rattle.papergrid_script.specs.Grammar.{Said, Nothing, Columns, Set, Row, Cell, line_says, script_lines}
 use Rattle.papergrid_script.specs.Scripts.{Table, empty_table, table_with_line, onto_last, or_bad, table_after, table_of}
 use Rattle.papergrid_script.specs.Tells.{NoRowBefore, IsBad, IsFirstBad, columns_said, setting_said, is_of_rows, last_or, rows_said, Tells}
+use Rattle.papergrid_script.proofs.ReadLemmas.{map_some}
 
 -- ---- a cell more in the last row
 
@@ -22,10 +23,6 @@ onto_last-later row next rows text =
         ≡ option_map (λ more. row ∷ more) (option_map (λ r. slice_set (next ∷ rows) (length (next ∷ rows) - 1) (r ++ text ∷ [])) o)
     both None = refl
     both (Some r) = refl
-
-map_some : {A B : Type 0} (f : A → B) (o : Option A) (y : B) → option_map f o ≡ Some y → (x : A) × (o ≡ Some x) × (f x ≡ y)
-map_some f None y h = cc
-map_some f (Some x) y h = (x, refl, same_Some _ _ h)
 
 rows_said-onto_last : (rows more : List (List (List ℕ))) (text : List ℕ) → onto_last rows text ≡ Some more → rows_said more ≡ rows_said rows ++ Cell text ∷ []
 rows_said-onto_last [] more text h = cc

@@ -85,9 +85,6 @@ pub either : {A B : Type 0} (a b : Bool) → (a ≡ true) ↔ A → (b ≡ true)
 either true b first second = ((λ _. inl (first.0 refl)), (λ _. refl))
 either false b first second = decided_by_rest false b first second refl
 
-pub by_value : (a b : Bool) → a ≡ b → IsTrue a ↔ (b ≡ true)
-by_value a b is = ((λ h. sym is ∙ h), (λ h. is ∙ h))
-
 -- ---- a table that holds nothing
 
 none_is : {A : Type 0} (o : Option A) → is_none o ≡ true → o ≡ None

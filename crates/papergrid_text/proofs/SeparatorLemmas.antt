@@ -13,7 +13,8 @@ use Rattle.unicode_width.specs.Width.{Reading, alone, before_alef, before_joiner
 use Rattle.unicode_width.proofs.Computing.{unicode_width}
 use Rattle.papergrid_width.proofs.RangeLemmas.{Ones, has_kind, line_kind, own_alone}
 use Rattle.papergrid_text.specs.Separators.{IsSeparator, begins_keycap, is_separator}
-use Rattle.papergrid_text.proofs.TrimLemmas.{of_range, read-append, read-shifted}
+use Rattle.papergrid_text.proofs.TrimLemmas.{of_range, read-shifted}
+use Rattle.papergrid_width.proofs.RunLemmas.{read_append}
 
 -- ---- printable ASCII
 
@@ -190,7 +191,7 @@ pub separates : (c : ℕ) → is_separator c ≡ true → IsSeparator c
 unfolding str_width
 separates c is front back =
     let r = read_before false back (0, plain) in
-    ap (λ (r : Reading). r.0) (read-append front (c ∷ back) (0, plain))
+    ap (λ (r : Reading). r.0) (read_append front (c ∷ back) (0, plain))
     ∙ ap (λ (r : Reading). (read_before false front r).0) (separator_step c r.0 r.1 is)
     ∙ read-shifted front (r.0 + 1)
     ∙ omega arith

@@ -1,7 +1,6 @@
 -- Without the white space at its ends no text is wider.
 use Rattle.std.proofs.Common.{◌≡◌, ◌⊎◌, inl, inr, ◌∙◌, ap, sym, refl, subst, ℕ, zero, suc, ◌+◌, ◌<◌, ◌≤◌, ◌==◌, ◌&&◌, ◌||◌, Bool, true, false, cond, not, nat_lt, List, [], ◌∷◌, ◌++◌, Some, None, length, replicate, arith, append_assoc, append-nil}
 use Rattle.std.specs.Char.{is_whitespace}
-use Rattle.std.specs.Int.{is_in_range}
 use Rattle.std.specs.List.{list_all, range_with_len}
 use Rattle.std.specs.Str.{chars, drop_trailing_whitespace, skip_leading_whitespace, trim, trim_end, trim_start}
 use Rattle.std.proofs.lemmas.Bool.{and_parts, cases_eq, cases_lt, eqb-true, ltb-true, not-true, or_cases}
@@ -13,10 +12,11 @@ use Rattle.unicode_width.specs.declared.state.Change.TheVariants.{Same}
 use Rattle.unicode_width.specs.declared.state.State.{State}
 use Rattle.unicode_width.specs.Width.{Reading, added, alone, before, before_alef, if_kept, in_context, is_indicator, is_plain, is_tifinagh, joined_or, joins, past_emoji, past_selectors, plain, read_before, step, str_width}
 use Rattle.unicode_width.proofs.Computing.{unicode_width}
-use Rattle.unicode_width.proofs.Rules.{is_simple, str_width-append_simple, str_width-printable}
+use Rattle.unicode_width.proofs.Rules.{str_width-append_simple, str_width-printable}
 use Rattle.unicode_width.proofs.WidthLemmas.{read_before-printable}
 use Rattle.papergrid_text.specs.Text.{width_of}
 use Rattle.papergrid_text.proofs.ReadBack.{chars-back}
+use Rattle.papergrid_width.proofs.RunLemmas.{all_simple, all_spaces, read_append}
 
 -- ---- white space, character by character
 
@@ -161,18 +161,6 @@ skipped-no_wider (c ∷ cs) =
 
 -- ---- after a text
 
-pub read-append : (xs ys : List ℕ) (r : Reading) → read_before false (xs ++ ys) r ≡ read_before false xs (read_before false ys r)
-read-append [] ys r = refl
-read-append (x ∷ xs) ys r = ap (step false x) (read-append xs ys r)
-
-spaces : (n : ℕ) → list_all (is_in_range 0x20 0x7E) (replicate n 32) ≡ true
-spaces zero = refl
-spaces (suc n) = spaces n
-
-simple-spaces : (n : ℕ) → list_all is_simple (replicate n 32) ≡ true
-simple-spaces zero = refl
-simple-spaces (suc n) = simple-spaces n
-
 -- what stands before n columns adds its width to them
 pub read-shifted : (cs : List ℕ) (n : ℕ) → (read_before false cs (n, plain)).0 ≡ str_width false cs + n
 unfolding str_width
@@ -181,11 +169,11 @@ read-shifted cs n =
     let many : length ys ≡ n = length-replicate n 32 in
     let from : 0 + length ys ≡ n = omega arith in
     let read : (n, plain) ≡ read_before false ys (0, plain) =
-    ap (λ m. (m, plain)) (sym from) ∙ read_before-printable false ys [] 0 (spaces n) refl
+    ap (λ m. (m, plain)) (sym from) ∙ read_before-printable false ys [] 0 (all_spaces n) refl
     ∙ ap (λ l. read_before false l (0, plain)) (append-nil ys) in
-    ap (λ r. (read_before false cs r).0) read ∙ ap (λ r. r.0) (sym (read-append cs ys (0, plain)))
-    ∙ str_width-append_simple false cs ys (simple-spaces n)
-    ∙ ap (λ m. str_width false cs + m) (str_width-printable false ys (spaces n) ∙ many)
+    ap (λ r. (read_before false cs r).0) read ∙ ap (λ r. r.0) (sym (read_append cs ys (0, plain)))
+    ∙ str_width-append_simple false cs ys (all_simple n)
+    ∙ ap (λ m. str_width false cs + m) (str_width-printable false ys (all_spaces n) ∙ many)
 
 -- all white space but the line feed is as plain as a space to what stands before it
 abbrev stays_plain : ℕ → Bool
@@ -287,7 +275,7 @@ before-line_feed (c ∷ cs) = elim (all-before_line c cs) [
 more-no_narrower : (cs : List ℕ) (w : ℕ) → is_whitespace w ≡ true → str_width false cs ≤ str_width false (cs ++ w ∷ [])
 unfolding str_width
 more-no_narrower cs w white =
-    let all = ap (λ (r : Reading). r.0) (read-append cs (w ∷ []) (0, plain)) in
+    let all = ap (λ (r : Reading). r.0) (read_append cs (w ∷ []) (0, plain)) in
     elim (white-plain w white) [
       | inl line ↦
           (let at = ap (λ k. (read_before false cs (step false k (0, plain))).0) line in

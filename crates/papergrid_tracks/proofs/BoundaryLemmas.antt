@@ -11,10 +11,6 @@ use Rattle.papergrid_tracks.specs.Fits.{range_sum, HasRoom, Fits}
 use Rattle.papergrid_tracks.proofs.Upto.{upto, upto-ext, upto-split, sum-take, sum-upto, range_sum-within, within}
 use Rattle.papergrid_tracks.specs.TrackBoundaries.{net_minimum, boundaries_of, AreBoundaries, sizes_between}
 
--- what holds of each cell in the list and in the table
-pub each : {P Q : Demand → Type 0} (n : ℕ) (ds : List Demand) → All (IsInTable n) ds → ((d : Demand) → IsInTable n d → P d → Q d) → All P ds → All Q ds
-each {P} {Q} n ds table step all k d l = step _ (table k d l) (all k d l)
-
 pub rises : (asks : Demand → ℕ) (n : ℕ) (ds : List Demand) (boundary : ℕ → ℕ) → AreBoundaries asks n ds boundary → (i k : ℕ) → i + k ≤ n → boundary i ≤ boundary (i + k)
 rises asks n ds boundary are i zero le = rw add-zero (omega arith)
 rises asks n ds boundary are i (suc k) le =

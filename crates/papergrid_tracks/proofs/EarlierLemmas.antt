@@ -23,14 +23,6 @@ earlier-either (Some a) (Some b) d e = elim (cases_Bool (is_before (place_of b) 
   | inr f ↦ let e' : Some a ≡ Some d = rw f at e in inl e'
 ]
 
-pub earlier-none : (one other : Option Demand) → earlier_cell one other ≡ None → (one ≡ None) × (other ≡ None)
-earlier-none None other e = (refl, e)
-earlier-none (Some a) None e = absurd (some_none a e)
-earlier-none (Some a) (Some b) e = elim (cases_Bool (is_before (place_of b) (place_of a))) [
-  | inl t ↦ let e' : Some b ≡ None = rw t at e in absurd (some_none b e')
-  | inr f ↦ let e' : Some a ≡ None = rw f at e in absurd (some_none a e')
-]
-
 before-true : (p q : Position) → IsBefore p q → is_before p q ≡ true
 before-true p q before = elim before [
   | inl above ↦ rw (lt-ltb p.row q.row above) refl

@@ -11,7 +11,7 @@ use Rattle.papergrid_tracks.specs.Sizes.{by_span}
 use Rattle.papergrid_tracks.specs.Ranges.{end_of, holds, AreDisjoint, AreNested, IsLaminar, IsInTable, LiesIn}
 use Rattle.papergrid_tracks.specs.ForProofs.LastCells.{Precedes, IsLaminarInOrder, last_holding}
 use Rattle.papergrid_tracks.specs.Certificates.{lies_in, outermost, single_at}
-use Rattle.papergrid_tracks.proofs.Upto.{holds_cases}
+use Rattle.papergrid_tracks.proofs.Upto.{holds-inside}
 use Rattle.papergrid_tracks.proofs.RangeLemmas.{covered, not_covered, not_both}
 use Rattle.papergrid_tracks.proofs.Orders.{TakesAll-by_span}
 use Rattle.papergrid_tracks.proofs.GrowLemmas.{disjoint-from_outer, covered_by_later}
@@ -110,17 +110,11 @@ meet c d one one' = elim (cases_lt c.start (end_of d)) [
   | inl l ↦ elim (cases_lt d.start (end_of c)) [
     | inr after ↦ inl (inl after)
     | inl l' ↦ elim (cases_lt c.start d.start) [
-      | inl x ↦ inr (d.start, holds_at c d.start (omega arith) l', holds_at d d.start (omega arith) (omega arith))
-      | inr x ↦ inr (c.start, holds_at c c.start (omega arith) (omega arith), holds_at d c.start x l)
+      | inl x ↦ inr (d.start, holds-inside c d.start (omega arith) l', holds-inside d d.start (omega arith) (omega arith))
+      | inr x ↦ inr (c.start, holds-inside c c.start (omega arith) (omega arith), holds-inside d c.start x l)
     ]
   ]
 ]
-  where
-    holds_at : (d : Demand) (i : ℕ) → d.start ≤ i → i < end_of d → holds d i ≡ true
-    holds_at d i l l' = elim (holds_cases d i) [
-      | inl h ↦ h.0
-      | inr h ↦ absurd (elim h.1 [ inl x ↦ omega arith | inr x ↦ omega arith ])
-    ]
 
 -- two ranges that hold the same number are not disjoint
 pub together : (a b : Demand) (i : ℕ) → holds a i ≡ true → holds b i ≡ true → AreDisjoint a b → ⊥

@@ -10,7 +10,7 @@ use Rattle.papergrid_values.specs.declared.position.Position.{Position}
 use Rattle.papergrid_values.specs.MapKeys.{position_cmp, position_eq}
 use Rattle.papergrid_values.proofs.KeyLemmas.{get_at_number, get_at_position, position_total, exact_positions}
 
-none_is_not_some : {X : Type 0} {x : X} → ◌≡◌ {A = Option X} None (Some x) → ⊥
+pub none_is_not_some : {X : Type 0} {x : X} → ◌≡◌ {A = Option X} None (Some x) → ⊥
 none_is_not_some e = false≢true (ap is_some e)
 
 -- a list of entries in which no key has a value is empty

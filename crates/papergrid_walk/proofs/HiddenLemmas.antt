@@ -108,13 +108,6 @@ before-trans p q r (inl a) (inr b) = inl (omega (arith, b.0))
 before-trans p q r (inr a) (inl b) = inl (omega (arith, a.0))
 before-trans p q r (inr a) (inr b) = inr (a.0 ∙ b.0, omega (arith, a.1, b.1))
 
--- a position in no later row stands before another, where it is left of it in one row
-pub before-from : (p q : Position) → p.row ≤ q.row → (p.row ≡ q.row → p.col < q.col) → IsBefore p q
-before-from p q below right = elim (cases_lt p.row q.row) [
-  | inl above ↦ inl above
-  | inr level ↦ let e : p.row ≡ q.row = omega (arith, below) in inr (e, right e)
-]
-
 -- what stands before a position stands in no later row
 before-row : (p q : Position) → IsBefore p q → p.row ≤ q.row
 before-row p q (inl above) = omega arith

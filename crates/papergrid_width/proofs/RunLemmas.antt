@@ -132,15 +132,15 @@ read_run (c ∷ d ∷ run) ys t s printable some read none =
 
 -- ---- what is read before a plain state adds up
 
-read_append : (xs ys : List ℕ) (r : Reading) → read_before false (xs ++ ys) r ≡ read_before false xs (read_before false ys r)
+pub read_append : (xs ys : List ℕ) (r : Reading) → read_before false (xs ++ ys) r ≡ read_before false xs (read_before false ys r)
 read_append [] ys r = refl
 read_append (x ∷ xs) ys r = ap (step false x) (read_append xs ys r)
 
-all_spaces : (n : ℕ) → list_all (is_in_range 0x20 0x7E) (replicate n 32) ≡ true
+pub all_spaces : (n : ℕ) → list_all (is_in_range 0x20 0x7E) (replicate n 32) ≡ true
 all_spaces zero = refl
 all_spaces (suc n) = all_spaces n
 
-all_simple : (n : ℕ) → list_all is_simple (replicate n 32) ≡ true
+pub all_simple : (n : ℕ) → list_all is_simple (replicate n 32) ≡ true
 all_simple zero = refl
 all_simple (suc n) = all_simple n
 

@@ -5,9 +5,7 @@ ghost use Rattle.std.specs.Bool.{OnTrue};
 ghost use Rattle.std.specs.Option.{option_copied};
 
 use papergrid_maps::EntityMap;
-use papergrid_values::{
-    ANSIBuf, ANSIFmt, ANSIStr, Colors, Entity, NoColor, NoColors, Position,
-};
+use papergrid_values::{ANSIBuf, ANSIFmt, ANSIStr, Colors, Entity, NoColor, NoColors, Position};
 use std::alloc::Global;
 use std::collections::{BTreeMap, HashMap};
 use std::fmt;
