@@ -87,6 +87,9 @@ kept-is_first i ds = elim (cases_lt 0 (base_size ds i)) [
       rw zero (kept-stays i no_demand ds none)
 ]
 
+pub first_greatest_nil : (i : ℕ) → first_greatest i [] ≡ no_demand
+first_greatest_nil i = sym (kept-is_first i [])
+
 pub first_greatest_more : (i : ℕ) (ds : List Demand) (d : Demand) → first_greatest i (ds ++ d ∷ []) ≡ gathered_for i (first_greatest i ds) d
 first_greatest_more i ds d =
     sym (kept-is_first i (ds ++ d ∷ [])) ∙ fold-append (gathered_for i) no_demand ds (d ∷ []) ∙ ap (λ k. gathered_for i k d) (kept-is_first i ds)
