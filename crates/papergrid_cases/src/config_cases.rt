@@ -21,6 +21,13 @@ pub struct Config {
     settings: Vec<Setting>,
 }
 
+impl Config {
+    /// The configuration by the settings that were applied.
+    pub fn settled(&self) -> &SpannedConfig {
+        &self.config
+    }
+}
+
 impl Kind for Config {
     fn new_one(alloc: Global) -> Config {
         Config {

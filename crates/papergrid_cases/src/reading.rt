@@ -37,6 +37,13 @@ impl<'a> Words<'a> {
         self.lack = Some(what);
     }
 
+    /// Notes what other words lack, if anything.
+    pub fn takes_lack(&mut self, other: &Words<'_>) {
+        if let Some(what) = other.lack() {
+            self.lacks(what);
+        }
+    }
+
     /// What was lacking, which may be the end of the line.
     pub fn lack(&self) -> Option<&'static str> {
         if self.lack.is_some() || self.rest.is_empty() {
@@ -198,6 +205,21 @@ impl<'a> Words<'a> {
             }
         }
         self.lacks("the quote that ends a text");
+        text
+    }
+
+    /// All that is left, with escapes.
+    pub fn spelled(&mut self) -> String {
+        let mut text = String::new(self.alloc);
+        for _ in 0..self.rest.len() {
+            if self.rest.is_empty() {
+                break;
+            }
+            let c = self.next();
+            if text.push(c).is_err() {
+                self.lacks("memory");
+            }
+        }
         text
     }
 

@@ -1,4 +1,4 @@
-//! The table that a script tells.
+//! The table that a case tells.
 
 use papergrid_config::SpannedConfig;
 use papergrid_text::{IterRecords, Text, VecRecords};
@@ -25,7 +25,7 @@ pub struct Told<'a> {
 impl Table {
     pub fn new(
         alloc: Global,
-        rows: &[&[&str]],
+        rows: &[Vec<String>],
         count_rows: usize,
         columns: usize,
     ) -> Result<Table, AllocError> {
@@ -70,41 +70,18 @@ impl Held for Text<String> {
     }
 }
 
-fn rows_of<C: Held>(alloc: Global, rows: &[&[&str]]) -> Result<Vec<Vec<C>>, AllocError> {
+fn rows_of<C: Held>(alloc: Global, rows: &[Vec<String>]) -> Result<Vec<Vec<C>>, AllocError> {
     let mut held = Vec::new(alloc);
     for row in rows {
-        held.push(row_of(alloc, *row)?)?;
+        held.push(row_of(alloc, row.as_slice())?)?;
     }
     Ok(held)
 }
 
-fn row_of<C: Held>(alloc: Global, row: &[&str]) -> Result<Vec<C>, AllocError> {
+fn row_of<C: Held>(alloc: Global, row: &[String]) -> Result<Vec<C>, AllocError> {
     let mut held = Vec::new(alloc);
     for text in row {
-        held.push(C::of(alloc, *text)?)?;
+        held.push(C::of(alloc, text.as_str())?)?;
     }
     Ok(held)
-}
-
-/// Adds the line of a script that begins with the word, or the row whose cells stand between bars.
-pub fn add_line(script: &mut String, word: &str, rest: &str) -> Result<(), AllocError> {
-    if word == "|" {
-        return add_row(script, rest.strip_suffix('|').unwrap_or(rest));
-    }
-    script.push_str(word)?;
-    if !rest.is_empty() {
-        script.push(' ')?;
-        script.push_str(rest)?;
-    }
-    script.push('\n')
-}
-
-fn add_row(script: &mut String, cells: &str) -> Result<(), AllocError> {
-    script.push_str("row\n")?;
-    for cell in cells.split('|') {
-        script.push_str("cell ")?;
-        script.push_str(cell.trim())?;
-        script.push('\n')?;
-    }
-    Ok(())
 }

@@ -1,23 +1,23 @@
-//! Cases of tables: a script tells one, and it is asked for its sizes, what certifies them and its places.
+//! Cases of tables: one is told, and it is asked for its sizes, what certifies them and its places.
 
 use crate::answer::Answer;
 use crate::certificate_questions::ask_certificates;
+use crate::config_cases::Config;
+use crate::pair::Kind;
 use crate::reading::Words;
 use crate::running::{Outcome, Subject};
 use crate::size_questions::Sizes;
-use crate::table::{Table, Told, add_line};
-use bumpalo::Bump;
-use papergrid_config::SpannedConfig;
-use papergrid_script::script::{Script, ScriptError, read_script};
-use papergrid_script::script_setting::configuration_of;
+use crate::table::{Table, Told};
 use std::alloc::{AllocError, Global};
 
-/// A script, how many rows the records say that they have, and sizes for the questions on places.
+/// A configuration, rows of texts, the counts that the records tell, and sizes for the questions on places.
 #[derive(Drop)]
 pub struct TableCases {
     alloc: Global,
-    script: String,
+    config: Config,
+    rows: Vec<Vec<String>>,
     count_rows: usize,
+    columns: usize,
     sizes: Option<Sizes>,
 }
 
@@ -25,64 +25,44 @@ impl Subject for TableCases {
     fn start(alloc: Global) -> TableCases {
         TableCases {
             alloc,
-            script: String::new(alloc),
+            config: Config::new_one(alloc),
+            rows: Vec::new(alloc),
             count_rows: 0,
+            columns: 0,
             sizes: None,
         }
     }
 
-    /// `rows N` tells the records' count, `sizes 3 4 | 1 1` the sizes, `times N LINE` a line so many times. Any other
-    /// line is one of the script, or a row of cells between bars.
+    /// `columns N` and `rows N` tell the records' counts, `sizes 3 4 | 1 1` the sizes. `| a | b |` is a row of two cells,
+    /// `row` one of none, and `cell a` one more cell of the last row. `times N LINE` is one of these three, so many
+    /// times. Any other line is a setting.
     fn tell(&mut self, word: &str, words: &mut Words<'_>) -> Outcome {
         match word {
+            "columns" => self.columns = words.number(),
             "rows" => self.count_rows = words.number(),
             "sizes" => return tell_sizes(&mut self.sizes, words),
-            "times" => return add_lines(&mut self.script, words),
-            _ => return add_line(&mut self.script, word, words.rest()),
+            "times" => return add_times(&mut self.rows, words),
+            "|" | "row" | "cell" => return add(&mut self.rows, word, words),
+            _ => return self.config.tell(word, words),
         }
         Ok(())
     }
 
     fn ask(&mut self, word: &str, words: &mut Words<'_>, answer: &mut Answer) -> Outcome {
-        let arena = Bump::new(self.alloc);
-        match read_script(self.alloc, &arena, self.script.as_bytes()) {
-            Ok(
-                Script {
-                    columns,
-                    settings,
-                    rows,
-                },
-            ) => {
-                let config = configuration_of(self.alloc, settings)?;
-                let outcome = self.ask_rows(&config, &rows, columns, word, words, answer);
-                drop(config);
-                outcome
-            }
-            Err(ScriptError::Bad(_)) => {
-                words.lacks("lines of a script before it");
-                Ok(())
-            }
-            Err(ScriptError::Memory) => Err(AllocError),
-        }
+        self.config.settle(words)?;
+        self.ask_settled(word, words, answer)
     }
 }
 
 impl TableCases {
-    /// Answers a question on the table of these rows by a configuration.
-    fn ask_rows(
-        &self,
-        config: &SpannedConfig,
-        rows: &[&[&str]],
-        columns: usize,
-        word: &str,
-        words: &mut Words<'_>,
-        answer: &mut Answer,
-    ) -> Outcome {
-        let table = Table::new(self.alloc, rows, self.count_rows, columns)?;
+    /// Answers a question, once the settings are applied.
+    fn ask_settled(&self, word: &str, words: &mut Words<'_>, answer: &mut Answer) -> Outcome {
+        let rows = self.rows.as_slice();
+        let table = Table::new(self.alloc, rows, self.count_rows, self.columns)?;
         let told = Told {
             alloc: self.alloc,
             table: &table,
-            config,
+            config: self.config.settled(),
             sizes: &self.sizes,
         };
         let outcome = ask_certificates(told, word, words, answer);
@@ -91,13 +71,40 @@ impl TableCases {
     }
 }
 
-/// Adds the line of a script that is told after a count, so many times.
-fn add_lines(script: &mut String, words: &mut Words<'_>) -> Outcome {
+/// Adds the row or the cell that is told after a count, so many times.
+fn add_times(rows: &mut Vec<Vec<String>>, words: &mut Words<'_>) -> Outcome {
     let (count, word, rest) = (words.number(), words.word(), words.rest());
     for _ in 0..count {
-        add_line(script, word, rest)?;
+        let mut line = Words::new(words.alloc(), rest);
+        add(rows, word, &mut line)?;
+        words.takes_lack(&line);
     }
     Ok(())
+}
+
+/// Adds a row, or a cell to the last one.
+fn add(rows: &mut Vec<Vec<String>>, word: &str, words: &mut Words<'_>) -> Outcome {
+    match word {
+        "row" => rows.push(Vec::new(words.alloc()))?,
+        "|" => rows.push(row_of(words)?)?,
+        _ => match rows.last_mut() {
+            Some(row) => row.push(words.spelled())?,
+            None => words.lacks("a row before it"),
+        },
+    }
+    Ok(())
+}
+
+/// The cells between the bars that are left.
+fn row_of(words: &mut Words<'_>) -> Result<Vec<String>, AllocError> {
+    let cells = words.rest();
+    let mut row = Vec::new(words.alloc());
+    for cell in cells.strip_suffix('|').unwrap_or(cells).split('|') {
+        let mut text = Words::new(words.alloc(), cell);
+        row.push(text.spelled())?;
+        words.takes_lack(&text);
+    }
+    Ok(row)
 }
 
 /// Takes widths, a bar and heights.
