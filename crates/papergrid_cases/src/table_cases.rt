@@ -87,10 +87,11 @@ fn add(rows: &mut Vec<Vec<String>>, word: &str, words: &mut Words<'_>) -> Outcom
     match word {
         "row" => rows.push(Vec::new(words.alloc()))?,
         "|" => rows.push(row_of(words)?)?,
-        _ => match rows.last_mut() {
+        "cell" => match rows.last_mut() {
             Some(row) => row.push(words.spelled())?,
             None => words.lacks("a row before it"),
         },
+        _ => words.lacks("a row or a cell"),
     }
     Ok(())
 }
