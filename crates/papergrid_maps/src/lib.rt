@@ -13,5 +13,6 @@ pub mod view;
 
 pub use anchors::Anchor;
 pub use entity_map::{EntityMap, MapCall, Stopped};
+pub use papergrid_values::{Colors, CompactConfig, NoColor, NoColors};
 pub use span_table::SpanTable;
 pub use view::{ConfigView, Paddings};
