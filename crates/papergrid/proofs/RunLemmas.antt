@@ -1,6 +1,6 @@
 -- What runs write, and how they end.
-use Rattle.std.proofs.Common.{◌≡◌, ◌≢◌, ◌∙◌, ℕ, Bool, List, Option, Result, Ok, Err, inl, inr, refl, subst, sym}
-use Rattle.std.specs.Prelude.{◌↔◌, IsErrOf}
+use Rattle.std.proofs.Common.{◌≡◌, ◌≢◌, ◌⊎◌, ◌∙◌, ℕ, Bool, List, Option, Result, Ok, Err, inl, inr, refl, subst, sym}
+use Rattle.std.specs.Prelude.{◌↔◌, IfErr, OnOk}
 use Rattle.papergrid_config.specs.declared.spanned.SpannedConfig.{SpannedConfig}
 use Rattle.papergrid_layout.specs.declared.sizing.Sizing.{Sizing}
 use Rattle.papergrid_draw.specs.Drawings.{Drawing}
@@ -14,9 +14,9 @@ use Rattle.papergrid_script.specs.declared.answer.RunEnd.TheVariants.{Done, Refu
 use Rattle.papergrid_script.specs.declared.reading.RunFault.{RunFault}
 use Rattle.papergrid_script.specs.declared.reading.RunFault.TheVariants as run_faults
 use Rattle.papergrid.specs.Pictures.{IsPictureOf, IsPictureRun, IsTablePicture, refusal_line}
-use Rattle.papergrid_grid.specs.Pictures.{IsDrawingWith, IsFaultWith, IsRefusal}
+use Rattle.papergrid_grid.specs.Pictures.{IsDrawingWith, IsFaultWith}
 use Rattle.papergrid.specs.ForProofs.Drawn.{IsBrokenOff, Runs}
-use Rattle.papergrid_grid.specs.ForProofs.Drawn.{IsSteady, IsWritten, IsUndrawn}
+use Rattle.papergrid_draw.specs.Sinks.{HasEnded, IsRefusal, IsSteady, IsTaken, IsUndrawn}
 
 module _ {W : Type 0} (contents : W → Option (List ℕ)) (has_failed has_stalled : W → Bool) where
   -- a run whose output is so, where another way to say it follows
@@ -33,20 +33,25 @@ module _ {W : Type 0} (contents : W → Option (List ℕ)) (has_failed has_stall
     steady = so.steady;
   }
 
-  -- where an allocation failed, no write did
-  pub runs-steady : (IsSo : RunEnd → List ℕ → Type 0) (old new : W) (result : Result RunEnd RunFault) → Runs contents has_failed has_stalled IsSo old new result →
-      IsErrOf result run_faults.Memory → IsSteady contents has_failed has_stalled old new
-  runs-steady IsSo old new (Ok end) so is = absurd (let none : ⊥ = cc in none)
-  runs-steady IsSo old new (Err fault) so is =
-      let memory : fault ≡ run_faults.Memory = cc in
-      elim so.steady [ inl write ↦ absurd (let none : ⊥ = cc in none) | inr steady ↦ steady ]
+  -- where it came to its end, no write failed or took nothing
+  pub runs-over : (IsSo : RunEnd → List ℕ → Type 0) (old new : W) (result : Result RunEnd RunFault) → Runs contents has_failed has_stalled IsSo old new result →
+      OnOk result (IsSteady contents has_failed has_stalled old new)
+  runs-over IsSo old new (Ok end) so = (so.2.works, so.2.moves)
+  runs-over IsSo old new (Err fault) so = tt
+
+  -- where it broke off, only a write that failed can have ended the writer
+  pub runs-broken : (IsSo : RunEnd → List ℕ → Type 0) (old new : W) (result : Result RunEnd RunFault) → Runs contents has_failed has_stalled IsSo old new result →
+      IfErr result (λ fault. (fault ≢ run_faults.Read) × (fault ≡ run_faults.Write → HasEnded contents has_failed has_stalled old new)
+      × ((fault ≡ run_faults.Write) ⊎ IsSteady contents has_failed has_stalled old new))
+  runs-broken IsSo old new (Ok end) so = tt
+  runs-broken IsSo old new (Err fault) so = (so.not_read, so.write, so.steady)
 
   module _ (sizing : Sizing) (table : Table) (config : SpannedConfig) (told : IsConfiguredBy table.settings config) where
     abbrev IsSoUndrawn : W → W → DrawError → Type 0
     IsSoUndrawn old new e = IsUndrawn contents has_failed has_stalled (IsDrawingWith table.columns table.rows sizing config) (IsFaultWith table.columns table.rows sizing config) lined old new e
 
     -- the picture was written
-    pub run-drawn : (old new : W) → ((d : Drawing) × IsDrawingWith table.columns table.rows sizing config d × IsWritten contents has_failed has_stalled old new (lined d)) →
+    pub run-drawn : (old new : W) → ((d : Drawing) × IsDrawingWith table.columns table.rows sizing config d × IsTaken contents has_failed has_stalled old (lined d) new) →
         Runs contents has_failed has_stalled (IsTablePicture sizing table) old new (Ok Done)
     run-drawn old new so = (lined so.0, (so.0, (config, told, so.1), refl), so.2)
 

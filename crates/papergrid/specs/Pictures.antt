@@ -9,7 +9,8 @@ use Rattle.papergrid_script.specs.Scripts.{Table, table_of}
 use Rattle.papergrid_script.specs.Texts.{newline}
 use Rattle.papergrid_script.specs.declared.answer.RunEnd.{RunEnd}
 use Rattle.papergrid_script.specs.declared.answer.RunEnd.TheVariants.{Done, Refused, BadScript}
-use Rattle.papergrid_grid.specs.Pictures.{IsDrawingBy, IsPictureFault, IsRefusal}
+use Rattle.papergrid_draw.specs.Sinks.{IsRefusal}
+use Rattle.papergrid_grid.specs.Pictures.{IsDrawingBy, IsPictureFault}
 
 -- the line that is written of a table that has no picture; none where only an allocation or the writer failed
 abbrev pub refusal_line : DrawError → List ℕ

@@ -1,20 +1,20 @@
 //! Tables drawn: of records by a list of settings, and of a script.
 
-ghost use Rattle.std.specs.Prelude.{◌≡◌, ◌≢◌, ◌⊎◌, ◌↔◌, ℕ, All, IfErr, IfOk, IsErrOf, List, OnErr, OnOk, false, take, true};
+ghost use Rattle.std.specs.Prelude.{◌≡◌, ◌≢◌, ◌⊎◌, ◌↔◌, ℕ, All, IfErr, IfOk, List, OnErr, OnOk, false, take, true};
 ghost use Rattle.std.specs.Io.KnownBytes.{Appends};
 ghost use Rattle.papergrid_values.specs.declared.position.Position.{Position};
 ghost use Rattle.papergrid_text.specs.HeldRows.{column_count};
 ghost use Rattle.papergrid_config.specs.Applied.{is_in_range};
-ghost use Rattle.papergrid_draw.specs.Drawings.{Drawing};
 ghost use Rattle.papergrid_draw.specs.Margins.{printed};
+ghost use Rattle.papergrid_draw.specs.Drawings.{Drawing};
+ghost use Rattle.papergrid_draw.specs.Sinks.{IsRefusal, IsTaken, IsUndrawn, WritesPicture};
 ghost use Rattle.papergrid_draw.specs.declared.error.DrawError.TheVariants.{Memory, NoRoom, NotTiled, OutOfTable, TooLarge, Write};
 ghost use Rattle.papergrid_grid.specs.Lined.{lined};
 ghost use Rattle.papergrid.specs.Pictures.{IsPictureRun, IsTablePicture, refusal_line};
-ghost use Rattle.papergrid_grid.specs.Pictures.{IsDrawingBy, IsDrawingWith, IsFaultWith, IsPictureFault, IsRefusal, texts_held};
-ghost use Rattle.papergrid_script.specs.Inputs.{IsWholeInput};
+ghost use Rattle.papergrid_grid.specs.Pictures.{IsDrawingBy, IsDrawingWith, IsFaultWith, IsPictureFault, texts_held};
+ghost use Rattle.papergrid_script.specs.Runs.{HasRun, IsRunFault};
 ghost use Rattle.papergrid_script.specs.Scripts.{Table};
 ghost use Rattle.papergrid.specs.ForProofs.Drawn.{Runs};
-ghost use Rattle.papergrid_grid.specs.ForProofs.Drawn.{WritesPicture};
 ghost use Rattle.papergrid_script.specs.Seen.{rows_seen, table_seen};
 ghost use Rattle.papergrid_script.specs.declared.reading.RunFault.TheVariants.{Read};
 ghost use Rattle.papergrid_script.specs.declared.reading.RunFault.TheVariants as run_faults;
@@ -58,22 +58,15 @@ pub fn draw<T: AsStr, W: Sink>(
     requires { All (λ setting. is_in_range setting ≡ true) settings.items }
     ensures picture { OnOk result ((d : Drawing) × IsDrawingBy (column_count records.now)
         (texts_held T.text records.now) sizing settings.items d
-        × Appends (W.contents sink.old) (W.contents sink.new) (printed d)) }
-    ensures works { OnOk result (W.has_failed sink.new ≡ W.has_failed sink.old) }
-    ensures moves { OnOk result (W.has_stalled sink.new ≡ W.has_stalled sink.old) }
-    ensures fault { IfErr result (λ e. IsRefusal e → IsPictureFault
-        (column_count records.now) (texts_held T.text records.now) sizing settings.items e) }
-    ensures nothing { IfErr result (λ e. IsRefusal e → sink.new ≡ sink.old) }
-    ensures beginning { OnErr result ((sink.new ≡ sink.old)
-        ⊎ ((d : Drawing) × IsDrawingBy (column_count records.now)
-        (texts_held T.text records.now) sizing settings.items d × ((n : ℕ)
-        × Appends (W.contents sink.old) (W.contents sink.new) (take n (printed d))))) }
-    ensures write { IsErrOf result DrawError.Write → (W.has_failed sink.new ≡ true)
-        ⊎ (W.has_stalled sink.old ≡ false → W.has_stalled sink.new ≡ true) }
-    // A failed allocation fails no write, and no cell lacks room in sizes that are found for it.
-    ensures steady { IfErr result (λ e. (e ≡ Write)
-        ⊎ ((W.has_failed sink.new ≡ W.has_failed sink.old)
-        × (W.has_stalled sink.new ≡ W.has_stalled sink.old))) }
+        × IsTaken W.contents W.has_failed W.has_stalled sink.old (printed d) sink.new) }
+    // A failed allocation fails no write.
+    ensures undrawn { IfErr result (IsUndrawn W.contents W.has_failed W.has_stalled
+        (IsDrawingBy (column_count records.now) (texts_held T.text records.now) sizing
+        settings.items)
+        (IsPictureFault (column_count records.now) (texts_held T.text records.now) sizing
+        settings.items)
+        printed sink.old sink.new) }
+    // No cell lacks room in sizes that are found for it.
     ensures room { IfErr result (λ e. (p : Position) → e ≢ NoRoom p) }
 {
     let config = configuration(alloc, settings)?;
@@ -125,34 +118,16 @@ pub fn run_table<S: Source, W: Sink>(
     // Of a reader and a writer that had not failed.
     requires reader { S.has_failed reader.old ≡ false }
     requires writer { W.has_failed writer.old ≡ false }
-    // The vector holds what was read, to the end of the reader; it is all where the reader tells its bytes.
-    ensures kept { OnOk result (IsWholeInput (S.remaining reader.old)
-        (S.remaining reader.new) input.new.items) }
     // The picture that it tells was written, or why it has none, and nothing else.
     ensures written { IfOk result (λ end. (output : List ℕ)
         × IsPictureRun sizing input.new.items end output
         × Appends (W.contents writer.old) (W.contents writer.new) output) }
-    // No read and no write failed, and each write of a piece that isn't empty took a byte.
-    ensures reader_works { OnOk result (S.has_failed reader.new ≡ false) }
-    ensures writer_works { OnOk result (W.has_failed writer.new ≡ false) }
-    ensures writer_moves { OnOk result (W.has_stalled writer.new ≡ W.has_stalled writer.old) }
-    // Which fault comes, what was written then, and what the vector holds.
-    ensures read { IsErrOf result RunFault.Read → S.has_failed reader.new ≡ true }
-    ensures write { IsErrOf result RunFault.Write →
-        (W.has_failed writer.new ≡ true) ⊎ (W.has_stalled writer.old ≡ false →
-        W.has_stalled writer.new ≡ true) }
-    ensures memory { IsErrOf result RunFault.Memory → S.has_failed reader.new ≡ false }
-    ensures write_alone { IsErrOf result RunFault.Write → S.has_failed reader.new ≡ false }
-    ensures read_nothing { IsErrOf result RunFault.Read → writer.new ≡ writer.old }
-    ensures read_kept { IsErrOf result RunFault.Read → input.new ≡ input.old }
-    ensures memory_kept { IsErrOf result RunFault.Memory →
-        (input.new ≡ input.old) ⊎ IsWholeInput (S.remaining reader.old)
-        (S.remaining reader.new) input.new.items }
-    ensures memory_works { IsErrOf result RunFault.Memory → W.has_failed writer.new ≡ false }
-    ensures memory_moves { IsErrOf result RunFault.Memory →
-        W.has_stalled writer.new ≡ W.has_stalled writer.old }
-    ensures write_kept { IsErrOf result RunFault.Write → IsWholeInput (S.remaining reader.old)
-        (S.remaining reader.new) input.new.items }
+    // The whole input is kept, no read and no write failed, and each write of a piece that isn't empty took a byte.
+    ensures ran { OnOk result (HasRun S.remaining S.has_failed W.contents W.has_failed
+        W.has_stalled reader.old reader.new writer.old writer.new input.old input.new) }
+    // Which fault comes, and what it leaves of the reader, of the writer and of the vector.
+    ensures fault { IfErr result (IsRunFault S.remaining S.has_failed W.contents W.has_failed
+        W.has_stalled reader.old reader.new writer.old writer.new input.old input.new) }
     ensures beginning { OnErr result ((writer.new ≡ writer.old)
         ⊎ ((end : RunEnd) × ((output : List ℕ) × IsPictureRun sizing input.new.items end output
         × ((n : ℕ) × Appends (W.contents writer.old) (W.contents writer.new)

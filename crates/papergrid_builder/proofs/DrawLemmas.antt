@@ -1,20 +1,21 @@
 -- The sizes and the picture of rows of texts that are lent, by what is found of records of them.
 use Rattle.std.proofs.Common.{Bor, Global, Vec, ◌≡◌, ℕ, List, None, Result, Ok, Err, IfErr, IfOk, map, refl, subst}
 use Rattle.papergrid_values.specs.declared.direction.Direction.{Direction}
+use Rattle.papergrid_values.specs.declared.per_direction.PerDirection.{PerDirection}
 use Rattle.papergrid_values.specs.declared.direction.Direction.TheVariants.{Columns, Rows}
 use Rattle.papergrid_config.specs.Grids.{spanned_grid}
 use Rattle.papergrid_config.specs.declared.setting.Setting.{Setting}
 use Rattle.papergrid_config.specs.declared.spanned.SpannedConfig.{SpannedConfig}
 use Rattle.papergrid_walk.specs.Cells.{problem_of}
-use Rattle.papergrid_layout.specs.Answers.{AreTooLargeBy, IsBothRefusedWhere, UnlessMemoryError}
-use Rattle.papergrid_layout.specs.Certificates.{IsCertificateBy, IsCertifiedBy, places_of}
+use Rattle.papergrid_layout.specs.Answers.{AreTooLargeBy, HoldAlong, IsBothRefusedWhere, UnlessMemoryError}
+use Rattle.papergrid_layout.specs.Certificates.{IsCertifiedBy, IsSolutionBy, solution_of}
 use Rattle.papergrid_layout.specs.Tables.{AreNoSizesBySizing, AreSizesBySizing, IsTableOf, TableParts}
-use Rattle.papergrid_layout.specs.declared.certificates.Certified.{Certified}
 use Rattle.papergrid_layout.specs.declared.sizing.Sizing.{Sizing}
 use Rattle.papergrid_layout.proofs.Told.{problem_told}
 use Rattle.papergrid_text.proofs.RowSteps.{told_by}
 use Rattle.papergrid_tracks.specs.declared.error.LayoutError.{LayoutError}
 use Rattle.papergrid_tracks.specs.declared.error.LayoutError.TheVariants as layout_errors
+use Rattle.papergrid_tracks.specs.declared.solution.Solved.{Solved}
 use Rattle.papergrid_draw.specs.Drawings.{Drawing, drawn_of}
 use Rattle.papergrid_grid.specs.Cells.{lines_at, text_lines}
 use Rattle.papergrid_grid.specs.Lined.{lined}
@@ -40,13 +41,11 @@ module _ {A : Type 0} (view : A → List ℕ) (config : SpannedConfig) (sizing :
       (problem_told (spanned_grid config) view text_measure cells rows same direction columns)
 
   -- sizes with what certifies them
-  pub found-told : (certified : Certified) → IsCertifiedBy (spanned_grid config) (λ x. text_measure (view x)) columns cells sizing (Ok certified) →
-      AreFoundSizes rows sizing (found_of (record { config = config; certified = certified }))
-  found-told certified are = record {
-    sizes = subst (λ n. AreSizesBySizing config text_measure n rows sizing certified.widths.items certified.heights.items) counted
-        (sizes-seen view config columns cells rows same sizing certified.widths.items certified.heights.items are.sizes);
-    certifies_widths = subst (λ problem. IsCertificateBy sizing problem (places_of certified.width_witness)) (along Columns) are.certifies_widths;
-    certifies_heights = subst (λ problem. IsCertificateBy sizing problem (places_of certified.height_witness)) (along Rows) are.certifies_heights;
+  pub found-told : (found : PerDirection Solved) → HoldAlong (spanned_grid config) (λ x. text_measure (view x)) columns cells (IsCertifiedBy sizing) found.columns found.rows →
+      AreFoundSizes rows sizing (found_of (record { config = config; along = found }))
+  found-told found are = record {
+    widths = subst (λ problem. IsSolutionBy sizing problem (solution_of found.columns)) (along Columns) are.widths;
+    heights = subst (λ problem. IsSolutionBy sizing problem (solution_of found.rows)) (along Rows) are.heights;
   }
 
   -- why there are none

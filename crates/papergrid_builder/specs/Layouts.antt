@@ -6,7 +6,7 @@ use Rattle.papergrid_values.specs.declared.position.Position.{Position}
 use Rattle.papergrid_config.specs.declared.setting.Setting.{Setting}
 use Rattle.papergrid_config.specs.declared.spanned.SpannedConfig.{SpannedConfig}
 use Rattle.papergrid_config.specs.Grids.{spanned_grid}
-use Rattle.papergrid_layout.specs.Certificates.{AreCertified}
+use Rattle.papergrid_layout.specs.Certificates.{AreSolutionsBy}
 use Rattle.papergrid_layout.specs.Places.{HasPlace, IsFirstOver, Overflows, total_along}
 use Rattle.papergrid_layout.specs.Tables.{AreNoSizesBySizing, TableParts, view_of}
 use Rattle.papergrid_layout.specs.declared.rect.Place.{Place}
@@ -19,17 +19,20 @@ use Rattle.papergrid_builder.specs.Told.{FoundTable, longest}
 use Rattle.papergrid_builder.specs.declared.error.BuilderError.{BuilderError}
 use Rattle.papergrid_builder.specs.declared.error.BuilderError.TheVariants.{Hidden, Memory, NotEstimated, OutOfTable, TooLarge}
 
--- the sizes that are chosen so for rows of texts by its configuration, and what certifies them
+-- the sizes that are chosen so for rows of texts by its configuration, their totals, and what certifies them
 abbrev pub AreFoundSizes : List (List (List ℕ)) → Sizing → FoundTable → Type 0
-AreFoundSizes rows sizing found =
-    AreCertified (spanned_grid found.parts.config) text_measure (longest rows) rows sizing found.parts.widths found.parts.heights found.width_certificate found.height_certificate
+AreFoundSizes rows sizing found = AreSolutionsBy (spanned_grid found.config) text_measure (longest rows) rows sizing found.along
+
+-- the configuration with the sizes that were found
+abbrev pub parts_found : FoundTable → TableParts
+parts_found found = record { config = found.config; widths = found.along.columns.sizes; heights = found.along.rows.sizes }
 
 module _ (settings : List Setting) (rows : List (List (List ℕ))) (sizing : Sizing) where
   -- the same by a configuration that the settings tell; the totals fit
   pub record IsFoundTable (found : FoundTable) : Type 0 where
-    pub configured : IsConfiguredBy settings found.parts.config
+    pub configured : IsConfiguredBy settings found.config
     pub sized : AreFoundSizes rows sizing found
-    pub fit : (direction : Direction) → total_along (view_of found.parts) direction < 2 ^ 64
+    pub fit : (direction : Direction) → total_along (view_of (parts_found found)) direction < 2 ^ 64
 
   -- why there are none
   abbrev pub HasNoSizes : LayoutError → Type 0
@@ -43,18 +46,18 @@ module _ (settings : List Setting) (rows : List (List (List ℕ))) (sizing : Siz
   IsNoFoundTable e = ⊥
 
 -- its total width and its total height, with all lines
-abbrev pub totals_of : TableParts → ℕ × ℕ
-totals_of parts = (total_along (view_of parts) Columns, total_along (view_of parts) Rows)
+abbrev pub totals_of : FoundTable → ℕ × ℕ
+totals_of found = (found.along.columns.total, found.along.rows.total)
 
 -- the widths, or the heights
 abbrev pub sizes_along : Direction → FoundTable → List ℕ
-sizes_along Columns found = found.parts.widths
-sizes_along Rows found = found.parts.heights
+sizes_along Columns found = found.along.columns.sizes
+sizes_along Rows found = found.along.rows.sizes
 
 -- the cells that certify them, if there are such
 abbrev pub certificate_along : Direction → FoundTable → Option (List Position)
-certificate_along Columns found = found.width_certificate
-certificate_along Rows found = found.height_certificate
+certificate_along Columns found = found.along.columns.certificate
+certificate_along Rows found = found.along.rows.certificate
 
 -- the screen rectangle of the cell at a position, or why it has none: it is hidden, else it overflows the table
 abbrev pub IsPlacedBy : TableParts → Position → Result Place BuilderError → Type 0
@@ -68,7 +71,7 @@ IsPlacedBy parts p (Err e) = ⊥
 -- the same of what was found, if something was
 abbrev pub IsPlaceAnswer : Option FoundTable → Position → Result Place BuilderError → Type 0
 IsPlaceAnswer None p answer = answer ≡ Err NotEstimated
-IsPlaceAnswer (Some found) p answer = IsPlacedBy found.parts p answer
+IsPlaceAnswer (Some found) p answer = IsPlacedBy (parts_found found) p answer
 
 -- the first cell, by row and then by column, that stands over a point, or none does
 abbrev pub IsCellBy : TableParts → ℕ → ℕ → Result (Option Position) BuilderError → Type 0
@@ -78,4 +81,4 @@ IsCellBy parts column line (Err e) = e ≡ Memory
 -- the same of what was found, if something was
 abbrev pub IsCellAnswer : Option FoundTable → ℕ → ℕ → Result (Option Position) BuilderError → Type 0
 IsCellAnswer None column line answer = answer ≡ Err NotEstimated
-IsCellAnswer (Some found) column line answer = IsCellBy found.parts column line answer
+IsCellAnswer (Some found) column line answer = IsCellBy (parts_found found) column line answer

@@ -1,16 +1,15 @@
 -- A table that is told call by call, and what each call makes of it.
 use Rattle.std.specs.Prelude.{ℕ, ◌==◌, Bool, true, false, if◌then◌else◌, List, [], ◌∷◌, ◌++◌, length, map, max, Option, None}
 use Rattle.std.specs.List.{slice_split}
-use Rattle.papergrid_values.specs.declared.position.Position.{Position}
+use Rattle.papergrid_values.specs.declared.per_direction.PerDirection.{PerDirection}
 use Rattle.papergrid_config.specs.declared.setting.Setting.{Setting}
-use Rattle.papergrid_layout.specs.Tables.{TableParts}
+use Rattle.papergrid_config.specs.declared.spanned.SpannedConfig.{SpannedConfig}
+use Rattle.papergrid_layout.specs.Certificates.{Solution}
 
--- what was found of a table: its configuration and its sizes. With the sizes come the cells that certify them along
--- each direction, if there are such
+-- what was found of a table by its configuration: along each direction the sizes, their total and their certificate
 pub record FoundTable : Type 0 where
-  pub parts : TableParts
-  pub width_certificate : Option (List Position)
-  pub height_certificate : Option (List Position)
+  pub config : SpannedConfig
+  pub along : PerDirection Solution
 
 -- what is told of a table, what was found of it, and what was drawn
 pub record ToldTable : Type 0 where

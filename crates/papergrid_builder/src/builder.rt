@@ -226,12 +226,13 @@ impl Builder {
     ) -> Result<(usize, usize), BuilderError>
         ensures ok { IfOk result (λ totals. (found : FoundTable)
             × IsFoundTable self.old.settings self.old.rows sizing found
-            × (totals ≡ totals_of found.parts)
+            × (totals ≡ totals_of found)
             × (self.new ≡ record self.old { found = Some found })) }
         ensures fault { IfErr result (IsNoFoundTable self.old.settings self.old.rows sizing) }
         ensures err { OnErr result (self.new ≡ self.old) }
     {
-        let (found, totals) = found_by(alloc, &self.settings, &self.cells, &self.starts, sizing)?;
+        let found = found_by(alloc, &self.settings, &self.cells, &self.starts, sizing)?;
+        let totals = (found.along.columns.total, found.along.rows.total);
         self.found = Some(found);
         Ok(totals)
     }
@@ -246,8 +247,8 @@ impl Builder {
     {
         let found = self.found.as_ref()?;
         Some(match direction {
-            Direction::Columns => found.certified.widths.as_slice(),
-            Direction::Rows => found.certified.heights.as_slice(),
+            Direction::Columns => found.along.columns.sizes.as_slice(),
+            Direction::Rows => found.along.rows.sizes.as_slice(),
         })
     }
 
@@ -261,10 +262,10 @@ impl Builder {
         ensures current { IfSome self.now.found (λ found. (sizing : Sizing)
             × IsFoundTable self.now.settings self.now.rows sizing found) }
     {
-        let certified = &self.found.as_ref()?.certified;
+        let along = &self.found.as_ref()?.along;
         let places = match direction {
-            Direction::Columns => certified.width_witness.as_ref()?,
-            Direction::Rows => certified.height_witness.as_ref()?,
+            Direction::Columns => along.columns.certificate.as_ref()?,
+            Direction::Rows => along.rows.certificate.as_ref()?,
         };
         Some(places.as_slice())
     }

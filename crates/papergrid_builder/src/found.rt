@@ -5,7 +5,7 @@ ghost use Rattle.papergrid_values.specs.declared.direction.Direction.{Direction}
 ghost use Rattle.papergrid_layout.specs.Tables.{view_of};
 ghost use Rattle.papergrid_layout.specs.Places.{total_along};
 ghost use Rattle.papergrid_json.specs.Documents.{AreInRange};
-ghost use Rattle.papergrid_builder.specs.Layouts.{IsCellBy, IsFoundTable, IsNoFoundTable, IsPlacedBy, AreFoundSizes, totals_of};
+ghost use Rattle.papergrid_builder.specs.Layouts.{IsCellBy, IsFoundTable, IsNoFoundTable, IsPlacedBy, AreFoundSizes};
 ghost use Rattle.papergrid_builder.specs.ForProofs.Kept.{found_of, found_parts};
 ghost use Rattle.papergrid_builder.specs.ForProofs.Sizes.{IsUnfound};
 ghost use Rattle.papergrid_builder.specs.ForProofs.Texts.{AreStarts, rows_lent, rows_told};
@@ -15,16 +15,16 @@ use crate::error::BuilderError;
 use crate::rows::{longest_of, rows_of};
 use papergrid_config::{Setting, SpannedConfig};
 use papergrid_json::configuration;
-use papergrid_layout::certificates::{Certified, certify};
-use papergrid_layout::{Place, PlaceError, Sizing, Table};
+use papergrid_layout::certificates::certify;
+use papergrid_layout::{Place, PlaceError, Sizing, Solved, Table};
 use papergrid_text::IterRecords;
-use papergrid_values::Position;
+use papergrid_values::{PerDirection, Position};
 use std::alloc::{AllocError, Global};
 
-/// A configuration with the sizes that were found by it, and what certifies these.
+/// A configuration with what was found by it along both directions.
 pub struct Found {
     pub config: SpannedConfig,
-    pub certified: Certified,
+    pub along: PerDirection<Solved>,
 }
 
 // By hand: docs/DECISIONS.md, "Drops".
@@ -32,12 +32,12 @@ impl Drop for Found {
     fn drop(self) {
         let Found {
             config: _,
-            certified: _,
+            along: _,
         } = self;
     }
 }
 
-/// What is found of cells, by where each row begins among them, by settings, with the total width and the total height.
+/// What is found of cells, by where each row begins among them, by settings.
 ///
 /// Condition: each setting is in range.
 pub fn found_by(
@@ -46,12 +46,11 @@ pub fn found_by(
     cells: &CellTexts,
     starts: &[usize],
     sizing: Sizing,
-) -> Result<(Found, (usize, usize)), BuilderError>
+) -> Result<Found, BuilderError>
     requires in_range { AreInRange settings.now.items }
     requires starts { AreStarts (length cells.now) starts.now }
     ensures ok { IfOk result (λ found. IsFoundTable settings.now.items
-        (rows_told cells.now starts.now) sizing (found_of found.0)) }
-    ensures totals { IfOk result (λ found. found.1 ≡ totals_of (found_parts found.0)) }
+        (rows_told cells.now starts.now) sizing (found_of found)) }
     ensures err { IfErr result (IsNoFoundTable settings.now.items
         (rows_told cells.now starts.now) sizing) }
 {
@@ -66,44 +65,31 @@ fn found_in(
     settings: &Vec<Setting>,
     rows: &[&[&str]],
     sizing: Sizing,
-) -> Result<(Found, (usize, usize)), BuilderError>
+) -> Result<Found, BuilderError>
     requires { AreInRange settings.now.items }
     ensures ok { IfOk result (λ found. IsFoundTable settings.now.items (rows_lent rows.now)
-        sizing (found_of found.0)) }
-    ensures totals { IfOk result (λ found. found.1 ≡ totals_of (found_parts found.0)) }
+        sizing (found_of found)) }
     ensures err { IfErr result (IsNoFoundTable settings.now.items (rows_lent rows.now) sizing) }
 {
     let config = configuration(alloc, settings)?;
-    let certified = certified_by(alloc, &config, rows, sizing)?;
-    let found = Found { config, certified };
-    let totals = totals(alloc, &found)?;
-    Ok((found, totals))
+    let along = found_along(alloc, &config, rows, sizing)?;
+    Ok(Found { config, along })
 }
 
-/// The sizes of rows of texts by a configuration, and what certifies these.
-fn certified_by(
+/// What is found of rows of texts by a configuration along both directions.
+fn found_along(
     alloc: Global,
     config: &SpannedConfig,
     rows: &[&[&str]],
     sizing: Sizing,
-) -> Result<Certified, BuilderError>
-    ensures ok { IfOk result (λ certified. AreFoundSizes (rows_lent rows.now) sizing
-        (found_of (record { config = config.now; certified = certified }))) }
+) -> Result<PerDirection<Solved>, BuilderError>
+    ensures ok { IfOk result (λ along. AreFoundSizes (rows_lent rows.now) sizing
+        (found_of (record { config = config.now; along = along }))) }
     ensures err { IfErr result (IsUnfound config.now (rows_lent rows.now) sizing) }
 {
     let columns = longest_of(rows);
     let records = IterRecords::new(Vec::from_slice(alloc, rows)?, columns, Some(rows.len()));
     Ok(certify(alloc, records, config, sizing)?)
-}
-
-/// The total width and the total height, with all lines.
-fn totals(alloc: Global, found: &Found) -> Result<(usize, usize), AllocError>
-    requires { (direction : Direction) →
-        total_along (view_of (found_parts found.now)) direction < 2 ^ 64 }
-    ensures { IfOk result (λ totals. totals ≡ totals_of (found_parts found.now)) }
-{
-    let table = table_of(alloc, found)?;
-    Ok((table.width(), table.height()))
 }
 
 /// The table of what was found.
@@ -112,12 +98,9 @@ fn table_of(alloc: Global, found: &Found) -> Result<Table<'_>, AllocError>
         total_along (view_of (found_parts found.now)) direction < 2 ^ 64 }
     ensures { IfOk result (λ table. table ≡ found_parts found.now) }
 {
-    let Certified {
-        widths,
-        heights,
-        ..
-    } = &found.certified;
-    match Table::from_sizes(alloc, &found.config, widths.clone()?, heights.clone()?) {
+    let PerDirection { columns, rows } = &found.along;
+    let (widths, heights) = (columns.sizes.clone()?, rows.sizes.clone()?);
+    match Table::from_sizes(alloc, &found.config, widths, heights) {
         Ok(table) => Ok(table),
         Err(_) => Err(AllocError),
     }

@@ -35,7 +35,7 @@ sizing_of least = if least == 0 then ByShares else Least
 abbrev pub Estimates : Sizing → ToldTable → ℕ × ℕ → ToldTable → ℕ × ℕ → ℤ → Type 0
 Estimates sizing old lent new told result =
     ((found : FoundTable) × IsFoundTable old.settings old.rows sizing found × (new ≡ record old { found = Some found })
-    × (told ≡ totals_of found.parts) × (result ≡ done))
+    × (told ≡ totals_of found) × (result ≡ done))
     ⊎ ((e : BuilderError) × IsNoFoundTable old.settings old.rows sizing e × (new ≡ old) × (told ≡ lent) × (result ≡ number_of e))
 
 -- sizes that were found are those of the table as it is told

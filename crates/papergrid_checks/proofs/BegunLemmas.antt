@@ -1,6 +1,6 @@
 -- What a run over a text in memory leaves written where it fails, and where it does not.
 use Rattle.std.proofs.Common.{◌≡◌, ◌∙◌, ◌⊎◌, ℕ, Bool, true, false, List, [], ◌∷◌, Option, ap, inl, inr, length, refl, subst, sym, take}
-use Rattle.std.specs.Prelude.{◌==◌, ◌||◌, if◌then◌else◌, Err, IfOk, IsErrOf, Ok, OnErr, OnOk, Result}
+use Rattle.std.specs.Prelude.{◌==◌, ◌||◌, if◌then◌else◌, Err, IfErr, IfOk, IsErrOf, Ok, OnErr, OnOk, Result}
 use Rattle.std.specs.Io.KnownBytes.{Appends}
 use Rattle.std.proofs.KnownBytes.{Appends-nil}
 use Rattle.std.proofs.Math.Seq.{take-nil}
@@ -58,6 +58,10 @@ no-output request output run =
     run.3 ∙ no-lines run.0 wide
 
 -- ---- a run that held this text, or none
+
+-- what holds of an error holds of this one
+pub of-error : {X E : Type 0} (result : Result X E) (P : E → Type 0) → IfErr result P → (e : E) → IsErrOf result e → P e
+of-error result P holds e is = subst (λ r. IfErr r P) is holds
 
 pub of-text : {X E : Type 0} (result : Result X E) (P : X → List ℕ → Type 0) (held text : List ℕ) → OnOk result (held ≡ text) → IfOk result (λ x. P x held) → IfOk result (λ x. P x text)
 of-text (Ok x) P held text same is = subst (P x) same is

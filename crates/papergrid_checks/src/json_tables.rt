@@ -6,7 +6,7 @@ ghost use Rattle.papergrid_checks.specs.Documents.{IsOfDocument};
 ghost use Rattle.papergrid_checks.specs.Written.{AppendsBeginning};
 ghost use Rattle.papergrid_checks.specs.declared.documents.TableError.TheVariants.{Undrawn, Unread};
 ghost use Rattle.papergrid_draw.specs.declared.error.DrawError.{DrawError};
-ghost use Rattle.papergrid_grid.specs.Pictures.{IsRefusal};
+ghost use Rattle.papergrid_draw.specs.Sinks.{IsRefusal};
 ghost use Rattle.papergrid_json.specs.declared.error.DocumentError.{DocumentError};
 
 use crate::documents::TableError;

@@ -28,7 +28,8 @@ use Rattle.papergrid_draw.specs.declared.error.DrawError.TheVariants as draw_err
 use Rattle.papergrid_grid.specs.Crossings.{IsFitFault, bare_drawing}
 use Rattle.papergrid_grid.specs.declared.crossings.Junctions.{Junctions}
 use Rattle.papergrid_walk.specs.Measures.{text_measure}
-use Rattle.papergrid_grid.specs.Pictures.{IsFaultWith, IsRefusal, Undrawn, Unsized, texts_drawing}
+use Rattle.papergrid_draw.specs.Sinks.{IsRefusal}
+use Rattle.papergrid_grid.specs.Pictures.{IsFaultWith, Undrawn, Unsized, texts_drawing}
 use Rattle.papergrid_csv.specs.Pictures.{AreFitted, Faulty, IsCsvRefused, IsUnfitted, IsUnpictured, Unfitted}
 use Rattle.papergrid_csv.specs.Requests.{settings_of}
 use Rattle.papergrid_csv.specs.declared.request.Request.{Request}

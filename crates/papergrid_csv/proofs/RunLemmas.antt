@@ -18,7 +18,8 @@ use Rattle.papergrid_draw.specs.declared.error.DrawError.TheVariants as draw_err
 use Rattle.papergrid_grid.specs.declared.crossings.Junctions.{Junctions}
 use Rattle.papergrid_walk.specs.Measures.{text_measure}
 use Rattle.papergrid_config.specs.Laws.{IsConfiguredBy}
-use Rattle.papergrid_grid.specs.Pictures.{IsDrawingWith, IsRefusal, Undrawn, Unsized}
+use Rattle.papergrid_draw.specs.Sinks.{IsRefusal}
+use Rattle.papergrid_grid.specs.Pictures.{IsDrawingWith, Undrawn, Unsized}
 use Rattle.papergrid_csv.specs.Pictures.{AreFitted, Faulty, IsCsvRun, IsCsvTable, IsConfigured, IsUnfitted, Unfitted}
 use Rattle.papergrid_csv.specs.Requests.{settings_of}
 use Rattle.papergrid_csv.specs.Rows.{AreRowsOf, IsUnread, row_texts, held_texts}

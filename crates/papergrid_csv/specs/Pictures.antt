@@ -12,7 +12,8 @@ use Rattle.papergrid_grid.specs.Crossings.{BecomesBy, FitCrossings, IsFitFault}
 use Rattle.papergrid_grid.specs.Lined.{lined}
 use Rattle.papergrid_grid.specs.declared.crossings.Junctions.{Junctions}
 use Rattle.papergrid_config.specs.Laws.{IsConfiguredBy}
-use Rattle.papergrid_grid.specs.Pictures.{IsDrawingWith, IsFaultWith, IsRefusal}
+use Rattle.papergrid_draw.specs.Sinks.{IsRefusal}
+use Rattle.papergrid_grid.specs.Pictures.{IsDrawingWith, IsFaultWith}
 use Rattle.papergrid_csv.specs.Judging.{IsFieldHidden, first_missing}
 use Rattle.papergrid_csv.specs.Requests.{first_row, settings_of}
 use Rattle.papergrid_csv.specs.Rows.{AreRowsOf, IsUnread}

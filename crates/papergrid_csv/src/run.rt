@@ -1,6 +1,6 @@
 //! The run of a CSV text: read to the end, judge, draw.
 
-ghost use Rattle.std.specs.Prelude.{◌≡◌, ◌≢◌, ◌⊎◌, ℕ, All, IfErr, IfOk, IsErrOf, List, MatchBool, MatchOption, OnErr, OnOk, false, length, map, take, true};
+ghost use Rattle.std.specs.Prelude.{◌≡◌, ◌≢◌, ◌⊎◌, ℕ, All, IfErr, IfOk, List, MatchBool, MatchOption, OnErr, OnOk, false, length, map, take, true};
 ghost use Rattle.std.specs.Io.KnownBytes.{Appends};
 ghost use Rattle.papergrid_config.specs.Applied.{is_in_range};
 ghost use Rattle.papergrid_config.specs.History.{AppendsSettings};
@@ -8,8 +8,9 @@ ghost use Rattle.papergrid_config.specs.declared.setting.Setting.{Setting};
 ghost use Rattle.papergrid_draw.specs.Faults.{AllHaveRoom};
 ghost use Rattle.papergrid_draw.specs.declared.error.DrawError.TheVariants.{Write};
 ghost use Rattle.papergrid_grid.specs.Crossings.{FitCrossings, IsFitFault};
-ghost use Rattle.papergrid_grid.specs.Pictures.{IsRefusal, texts_drawing};
-ghost use Rattle.papergrid_script.specs.Inputs.{IsWholeInput};
+ghost use Rattle.papergrid_draw.specs.Sinks.{IsRefusal};
+ghost use Rattle.papergrid_grid.specs.Pictures.{texts_drawing};
+ghost use Rattle.papergrid_script.specs.Runs.{HasRun, IsRunFault};
 ghost use Rattle.papergrid_csv.specs.Pictures.{IsCsvRun, IsNarrow, IsWide};
 ghost use Rattle.papergrid_csv.specs.Rows.{row_texts, held_texts};
 ghost use Rattle.papergrid_csv.specs.declared.run.CsvEnd.TheVariants.{Drawn};
@@ -74,34 +75,16 @@ pub fn run_csv<S: Source, W: Sink>(
     // Of a reader and a writer that had not failed.
     requires reader { S.has_failed reader.old ≡ false }
     requires writer { W.has_failed writer.old ≡ false }
-    // The vector holds what was read, to the end of the reader; it is all where the reader tells its bytes.
-    ensures kept { OnOk result (IsWholeInput (S.remaining reader.old)
-        (S.remaining reader.new) input.new.items) }
     // The picture of its table was written, or nothing where it has none.
     ensures written { IfOk result (λ end. (output : List ℕ)
         × IsCsvRun request.now input.new.items end output
         × Appends (W.contents writer.old) (W.contents writer.new) output) }
-    // No read and no write failed, and each write of a piece that isn't empty took a byte.
-    ensures reader_works { OnOk result (S.has_failed reader.new ≡ false) }
-    ensures writer_works { OnOk result (W.has_failed writer.new ≡ false) }
-    ensures writer_moves { OnOk result (W.has_stalled writer.new ≡ W.has_stalled writer.old) }
-    // Which fault comes, what was written then, and what the vector holds.
-    ensures read { IsErrOf result RunFault.Read → S.has_failed reader.new ≡ true }
-    ensures write { IsErrOf result RunFault.Write →
-        (W.has_failed writer.new ≡ true) ⊎ (W.has_stalled writer.old ≡ false →
-        W.has_stalled writer.new ≡ true) }
-    ensures memory { IsErrOf result RunFault.Memory → S.has_failed reader.new ≡ false }
-    ensures write_alone { IsErrOf result RunFault.Write → S.has_failed reader.new ≡ false }
-    ensures read_nothing { IsErrOf result RunFault.Read → writer.new ≡ writer.old }
-    ensures read_kept { IsErrOf result RunFault.Read → input.new ≡ input.old }
-    ensures memory_kept { IsErrOf result RunFault.Memory →
-        (input.new ≡ input.old) ⊎ IsWholeInput (S.remaining reader.old)
-        (S.remaining reader.new) input.new.items }
-    ensures memory_works { IsErrOf result RunFault.Memory → W.has_failed writer.new ≡ false }
-    ensures memory_moves { IsErrOf result RunFault.Memory →
-        W.has_stalled writer.new ≡ W.has_stalled writer.old }
-    ensures write_kept { IsErrOf result RunFault.Write → IsWholeInput (S.remaining reader.old)
-        (S.remaining reader.new) input.new.items }
+    // The whole input is kept, no read and no write failed, and each write of a piece that isn't empty took a byte.
+    ensures ran { OnOk result (HasRun S.remaining S.has_failed W.contents W.has_failed
+        W.has_stalled reader.old reader.new writer.old writer.new input.old input.new) }
+    // Which fault comes, and what it leaves of the reader, of the writer and of the vector.
+    ensures fault { IfErr result (IsRunFault S.remaining S.has_failed W.contents W.has_failed
+        W.has_stalled reader.old reader.new writer.old writer.new input.old input.new) }
     ensures beginning { OnErr result ((writer.new ≡ writer.old)
         ⊎ ((output : List ℕ) × IsCsvRun request.now input.new.items Drawn output
         × ((n : ℕ) × Appends (W.contents writer.old) (W.contents writer.new)

@@ -1,8 +1,8 @@
 //! The run of a CSV text whose fields are cut so that its table is no wider than it may be.
 
-ghost use Rattle.std.specs.Prelude.{◌≡◌, ◌⊎◌, ◌↔◌, ℕ, IfOk, IsErrOf, IsTrue, List, OnErr, OnOk, false, take, true};
+ghost use Rattle.std.specs.Prelude.{◌≡◌, ◌⊎◌, ◌↔◌, ℕ, IfErr, IfOk, IsTrue, List, OnErr, OnOk, false, take, true};
 ghost use Rattle.std.specs.Io.KnownBytes.{Appends};
-ghost use Rattle.papergrid_script.specs.Inputs.{IsWholeInput};
+ghost use Rattle.papergrid_script.specs.Runs.{HasRun, IsRunFault};
 ghost use Rattle.papergrid_csv.specs.Rows.{held_texts};
 ghost use Rattle.papergrid_csv.specs.Within.{IsRunWithin, cut_request};
 ghost use Rattle.papergrid_csv.specs.ForProofs.Drawn.{RunsCsv};
@@ -37,9 +37,6 @@ pub fn run_csv_within<S: Source, W: Sink>(
     // Of a reader and a writer that had not failed.
     requires reader { S.has_failed reader.old ≡ false }
     requires writer { W.has_failed writer.old ≡ false }
-    // The vector holds what was read, to the end of the reader; it is all where the reader tells its bytes.
-    ensures kept { OnOk result (IsWholeInput (S.remaining reader.old)
-        (S.remaining reader.new) input.new.items) }
     // The picture of its table, with fields cut as the request says now, was written, or nothing where it has none.
     ensures written { IfOk result (λ end. (output : List ℕ)
         × IsRunWithin request.old width input.new.items request.new.cut end output
@@ -48,27 +45,12 @@ pub fn run_csv_within<S: Source, W: Sink>(
     ensures request { OnOk result (request.new ≡ cut_request request.old width request.new.cut) }
     ensures request_err { OnErr result ((request.new ≡ request.old)
         ⊎ (request.new ≡ cut_request request.old width request.new.cut)) }
-    // No read and no write failed, and each write of a piece that isn't empty took a byte.
-    ensures reader_works { OnOk result (S.has_failed reader.new ≡ false) }
-    ensures writer_works { OnOk result (W.has_failed writer.new ≡ false) }
-    ensures writer_moves { OnOk result (W.has_stalled writer.new ≡ W.has_stalled writer.old) }
-    // Which fault comes, what was written then, and what the vector holds.
-    ensures read { IsErrOf result RunFault.Read → S.has_failed reader.new ≡ true }
-    ensures write { IsErrOf result RunFault.Write →
-        (W.has_failed writer.new ≡ true) ⊎ (W.has_stalled writer.old ≡ false →
-        W.has_stalled writer.new ≡ true) }
-    ensures memory { IsErrOf result RunFault.Memory → S.has_failed reader.new ≡ false }
-    ensures write_alone { IsErrOf result RunFault.Write → S.has_failed reader.new ≡ false }
-    ensures read_nothing { IsErrOf result RunFault.Read → writer.new ≡ writer.old }
-    ensures read_kept { IsErrOf result RunFault.Read → input.new ≡ input.old }
-    ensures memory_kept { IsErrOf result RunFault.Memory →
-        (input.new ≡ input.old) ⊎ IsWholeInput (S.remaining reader.old)
-        (S.remaining reader.new) input.new.items }
-    ensures memory_works { IsErrOf result RunFault.Memory → W.has_failed writer.new ≡ false }
-    ensures memory_moves { IsErrOf result RunFault.Memory →
-        W.has_stalled writer.new ≡ W.has_stalled writer.old }
-    ensures write_kept { IsErrOf result RunFault.Write → IsWholeInput (S.remaining reader.old)
-        (S.remaining reader.new) input.new.items }
+    // The whole input is kept, no read and no write failed, and each write of a piece that isn't empty took a byte.
+    ensures ran { OnOk result (HasRun S.remaining S.has_failed W.contents W.has_failed
+        W.has_stalled reader.old reader.new writer.old writer.new input.old input.new) }
+    // Which fault comes, and what it leaves of the reader, of the writer and of the vector.
+    ensures fault { IfErr result (IsRunFault S.remaining S.has_failed W.contents W.has_failed
+        W.has_stalled reader.old reader.new writer.old writer.new input.old input.new) }
     ensures beginning { OnErr result ((writer.new ≡ writer.old)
         ⊎ ((output : List ℕ)
         × IsRunWithin request.old width input.new.items request.new.cut Drawn output

@@ -6,12 +6,12 @@ use Rattle.papergrid_draw.specs.Drawings.{Drawing}
 use Rattle.papergrid_draw.specs.Faults.{IsDrawFault}
 use Rattle.papergrid_draw.specs.declared.error.DrawError.{DrawError}
 use Rattle.papergrid_draw.specs.declared.error.DrawError.TheVariants.{Memory, NoRoom, NotTiled, OutOfTable, TooLarge, Write}
-use Rattle.papergrid_draw.specs.ForProofs.Sheets.{Draws, IsCutOff, IsDrawRefusal, Writes}
+use Rattle.papergrid_draw.specs.ForProofs.Sheets.{Draws, IsCutShort, IsDrawRefusal, Writes}
 
 -- by the relations of texts that are taken and of one that breaks off
 module _ {W : Type 0} (takes breaks : W → List ℕ → W → Type 0) where
   -- a picture that is cut off is left off
-  left-cut : (a b : W) (bytes : List ℕ) (error : DrawError) → IsCutOff takes breaks a b bytes error → IsLeftOff takes breaks a bytes b error
+  left-cut : (a b : W) (bytes : List ℕ) (error : DrawError) → IsCutShort takes breaks a b bytes error → IsLeftOff takes breaks a bytes b error
   left-cut a b bytes (Memory e) cut = cut
   left-cut a b bytes Write cut = cut
   left-cut a b bytes (OutOfTable p) cut = absurd cut
@@ -32,7 +32,7 @@ module _ {W : Type 0} (takes breaks : W → List ℕ → W → Type 0) where
   draws-refused a d bytes error is = record { picture = tt; fault = is.0; left = left-none a d bytes error is }
 
   -- a writer alone may fail in the midst
-  cut-fault : (a b : W) (d : Drawing) (bytes : List ℕ) (error : DrawError) → IsCutOff takes breaks a b bytes error → IsDrawFault d error
+  cut-fault : (a b : W) (d : Drawing) (bytes : List ℕ) (error : DrawError) → IsCutShort takes breaks a b bytes error → IsDrawFault d error
   cut-fault a b d bytes (Memory e) cut = tt
   cut-fault a b d bytes Write cut = tt
   cut-fault a b d bytes (OutOfTable p) cut = absurd cut

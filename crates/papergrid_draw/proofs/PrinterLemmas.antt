@@ -18,7 +18,7 @@ use Rattle.papergrid_draw.specs.Drawings.{Drawing, layout_of}
 use Rattle.papergrid_draw.specs.Drawn.{DrawnLine, RuleLine, TextLine, drawn_lines, draws_horizontal, row_lines, rule_line, rule_lines, text_line}
 use Rattle.papergrid_draw.specs.Margins.{beside, margin_line, printed, printed_lines, whole_width, with_margins}
 use Rattle.papergrid_draw.specs.ForProofs.Pages.{AreSlotsSet, AreSlots, IsFrame, IsSlot, Texts, drawing_of, row_start, text_start}
-use Rattle.papergrid_draw.specs.ForProofs.Sheets.{AtRow, AtRule, AtText, IsCutOff, Writes, WritesLines, left_margin_at, lines_after, margined, right_margin_at, separator, first_text_lines}
+use Rattle.papergrid_draw.specs.ForProofs.Sheets.{AtRow, AtRule, AtText, IsCutShort, Writes, WritesLines, left_margin_at, lines_after, margined, right_margin_at, separator, first_text_lines}
 use Rattle.papergrid_draw.specs.declared.page.Frame.{Frame}
 use Rattle.papergrid_draw.specs.declared.page.Slot.{Slot}
 use Rattle.papergrid_draw.specs.declared.sheet.Sheet.{Sheet}
@@ -377,14 +377,14 @@ module _ (d : Drawing) where
   -- by the relations of texts that are taken and of one that breaks off
   module _ {W : Type 0} (takes breaks : W → List ℕ → W → Type 0) where
     pub picture-cut-above : {A : Type 0} (a b : W) (p s : Bool) (error : DrawError) → p ≡ false → WritesLines takes breaks {A = A} a b p s top_lines (Err error) →
-        IsCutOff takes breaks a b (join_with_byte 10 (printed_lines d)) error
+        IsCutShort takes breaks a b (join_with_byte 10 (printed_lines d)) error
     picture-cut-above {A = A} a b p s error none cut =
         picture-of takes breaks {A = A} a b p s (printed_lines d) (Err error) none
         (lines-cut takes breaks {B = A} a b p s s (top_lines ++ margined d 0 (drawn_lines d)) bottom_lines error
         (lines-cut takes breaks {B = A} a b p s s top_lines (margined d 0 (drawn_lines d)) error cut))
 
     pub picture-cut : {A B : Type 0} (a b c : W) (p q s : Bool) (x : A) (error : DrawError) → p ≡ false → WritesLines takes breaks {A = A} a b p q top_lines (Ok x) →
-        WritesLines takes breaks {A = B} b c q s (margined d 0 (drawn_lines d)) (Err error) → IsCutOff takes breaks a c (join_with_byte 10 (printed_lines d)) error
+        WritesLines takes breaks {A = B} b c q s (margined d 0 (drawn_lines d)) (Err error) → IsCutShort takes breaks a c (join_with_byte 10 (printed_lines d)) error
     picture-cut {B = B} a b c p q s x error none above lines =
         picture-of takes breaks {A = B} a c p s (printed_lines d) (Err error) none
         (lines-cut takes breaks {B = B} a c p s s (top_lines ++ margined d 0 (drawn_lines d)) bottom_lines error

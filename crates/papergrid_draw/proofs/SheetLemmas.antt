@@ -7,7 +7,7 @@ use Rattle.std.proofs.Output.{writes_in_calls_append, writes_in_calls_nil, write
 use Rattle.std.proofs.lemmas.List.{replicate-append-replicate}
 use Rattle.papergrid_draw.specs.declared.error.DrawError.{DrawError}
 use Rattle.papergrid_draw.specs.declared.error.DrawError.TheVariants.{Memory, NoRoom, NotTiled, OutOfTable, TooLarge, Write}
-use Rattle.papergrid_draw.specs.ForProofs.Sheets.{IsCutOff, Writes, WritesLines, begun_after, lines_after, separator}
+use Rattle.papergrid_draw.specs.ForProofs.Sheets.{IsCutShort, Writes, WritesLines, begun_after, lines_after, separator}
 
 -- ---- the bytes of lines
 
@@ -41,10 +41,10 @@ enumerate_from-append n (x ∷ xs) ys =
 
 -- by the relations of texts that are taken and of one that breaks off
 module _ {W : Type 0} (takes breaks : W → List ℕ → W → Type 0) where
-  pub cut-memory : (a : W) (bytes : List ℕ) (e : AllocError) → IsCutOff takes breaks a a bytes (Memory e)
+  pub cut-memory : (a : W) (bytes : List ℕ) (e : AllocError) → IsCutShort takes breaks a a bytes (Memory e)
   cut-memory a bytes e = record { taken = []; rest = bytes; calls = writes_in_calls_nil takes a; whole = refl }
 
-  cut-later : (a b c : W) (xs ys : List ℕ) (error : DrawError) → WritesInCalls takes a xs b → IsCutOff takes breaks b c ys error → IsCutOff takes breaks a c (xs ++ ys) error
+  cut-later : (a b c : W) (xs ys : List ℕ) (error : DrawError) → WritesInCalls takes a xs b → IsCutShort takes breaks b c ys error → IsCutShort takes breaks a c (xs ++ ys) error
   cut-later a b c xs ys (Memory e) p q = record {
     taken = xs ++ q.taken;
     rest = q.rest;
@@ -65,7 +65,7 @@ module _ {W : Type 0} (takes breaks : W → List ℕ → W → Type 0) where
   cut-later a b c xs ys (NoRoom x) p q = absurd q
   cut-later a b c xs ys TooLarge p q = absurd q
 
-  cut-before : (a b : W) (xs ys : List ℕ) (error : DrawError) → IsCutOff takes breaks a b xs error → IsCutOff takes breaks a b (xs ++ ys) error
+  cut-before : (a b : W) (xs ys : List ℕ) (error : DrawError) → IsCutShort takes breaks a b xs error → IsCutShort takes breaks a b (xs ++ ys) error
   cut-before a b xs ys (Memory e) p = record {
     taken = p.taken;
     rest = p.rest ++ ys;
@@ -95,7 +95,7 @@ module _ {W : Type 0} (takes breaks : W → List ℕ → W → Type 0) where
   pub writes-one : (a b : W) (text : List ℕ) → takes a text b → WritesInCalls takes a text b
   writes-one a b text took = writes_in_calls_single takes a text b took
 
-  pub cut-one : (a b : W) (text : List ℕ) → breaks a text b → IsCutOff takes breaks a b text Write
+  pub cut-one : (a b : W) (text : List ℕ) → breaks a text b → IsCutShort takes breaks a b text Write
   cut-one a b text broke = record {
     taken = [];
     between = a;
@@ -140,7 +140,7 @@ module _ {W : Type 0} (takes breaks : W → List ℕ → W → Type 0) where
   pub lines-cut : {A B : Type 0} (a b : W) (p q s : Bool) (xs ys : List (List ℕ)) (error : DrawError) → WritesLines takes breaks {A = A} a b p q xs (Err error) →
       WritesLines takes breaks {A = B} a b p s (xs ++ ys) (Err error)
   lines-cut a b p q s xs ys error cut = record {
-    bytes = subst (λ l. IsCutOff takes breaks a b l error) (sym (lines_after-append p xs ys))
+    bytes = subst (λ l. IsCutShort takes breaks a b l error) (sym (lines_after-append p xs ys))
         (cut-before a b (lines_after p xs) (lines_after (begun_after p xs) ys) error cut.bytes);
     begun_is = tt;
   }

@@ -1,17 +1,18 @@
 -- What a sink took of texts that were delivered to it.
-use Rattle.std.proofs.Common.{◌≡◌, ◌⊎◌, ◌∙◌, ◌+◌, ℕ, Bool, inl, inr, List, [], ◌∷◌, ◌++◌, Option, Some, None, Result, Ok, Err, OnErr, OnOk, IfErr, length, take, refl, sym, ap, subst, arith, append-nil}
+use Rattle.std.proofs.Common.{◌≡◌, ◌≢◌, ◌⊎◌, ◌∙◌, ◌+◌, ℕ, Bool, inl, inr, List, [], ◌∷◌, ◌++◌, Option, Some, None, Result, Ok, Err, OnOk, IfErr, length, take, refl, sym, ap, subst, arith, append-nil}
 use Rattle.std.specs.Fmt.{WritesInCalls}
 use Rattle.std.specs.Io.KnownBytes.{Appends}
 use Rattle.std.specs.List.{FoldsTo, concat}
-use Rattle.std.specs.Prelude.{IsErrOf}
-use Rattle.std.specs.declared.alloc.AllocError.{AllocError}
 use Rattle.std.proofs.Math.Seq.{take-append-add, take-append_seam}
 use Rattle.std.proofs.lemmas.Bool.{cases_lt}
 use Rattle.std.proofs.lemmas.List.{take-append-le, take_all}
 use Rattle.papergrid_draw.specs.Deliveries.{BreaksOff, IsLeftOff, TakesBeginning}
 use Rattle.papergrid_draw.specs.declared.error.DrawError.{DrawError}
 use Rattle.papergrid_draw.specs.declared.error.DrawError.TheVariants.{Memory, NoRoom, NotTiled, OutOfTable, TooLarge, Write}
-use Rattle.papergrid_draw.specs.ForProofs.Sinks.{HasEnded, IsBroken, IsTaken}
+use Rattle.papergrid_draw.specs.Drawings.{Drawing}
+use Rattle.papergrid_draw.specs.Faults.{IsDrawFault}
+use Rattle.papergrid_draw.specs.Sinks.{HasBegun, HasEnded, IsCutOff, IsRefusal, IsSteady, IsTaken, IsUndrawn, WritesPicture}
+use Rattle.papergrid_draw.specs.ForProofs.Sinks.{IsBroken}
 use Rattle.papergrid_draw.proofs.KnownLemmas.{appends_more}
 
 pub appends_none : (a : Option (List ℕ)) → Appends a a []
@@ -34,10 +35,10 @@ module _ {W : Type 0} (contents : W → Option (List ℕ)) (has_failed has_stall
   abbrev broke : W → List ℕ → W → Type 0
   broke = IsBroken contents has_failed has_stalled
 
-  taken-none : (a : W) → took a [] a
+  pub taken-none : (a : W) → took a [] a
   taken-none a = record { bytes_are = appends_none (contents a); works = refl; moves = refl }
 
-  taken-more : (a b c : W) (xs ys : List ℕ) → took a xs b → took b ys c → took a (xs ++ ys) c
+  pub taken-more : (a b c : W) (xs ys : List ℕ) → took a xs b → took b ys c → took a (xs ++ ys) c
   taken-more a b c xs ys p q = record {
     bytes_are = appends_more (contents a) (contents b) (contents c) xs ys p.bytes_are q.bytes_are;
     works = q.works ∙ p.works;
@@ -84,23 +85,13 @@ module _ {W : Type 0} (contents : W → Option (List ℕ)) (has_failed has_stall
   beginning-left a b bytes (NoRoom q) p = beginning-none a b bytes p
   beginning-left a b bytes TooLarge p = beginning-none a b bytes p
 
-  pub sink-beginning : {A : Type 0} (a b : W) (bytes : List ℕ) (r : Result A DrawError) → IfErr r (IsLeftOff took broke a bytes b) →
-      OnErr r ((n : ℕ) × Appends (contents a) (contents b) (take n bytes))
-  sink-beginning a b bytes (Ok x) p = tt
-  sink-beginning a b bytes (Err e) p = beginning-left a b bytes e p
-
-  nothing-left : (a b : W) (bytes : List ℕ) (error : DrawError) → IsLeftOff took broke a bytes b error → (error ≡ Write) ⊎ ((e : AllocError) × (error ≡ Memory e)) ⊎ (b ≡ a)
-  nothing-left a b bytes (Memory e) p = inr (inl (e, refl))
-  nothing-left a b bytes Write p = inl refl
-  nothing-left a b bytes (OutOfTable q) p = inr (inr p)
-  nothing-left a b bytes (NotTiled q) p = inr (inr p)
-  nothing-left a b bytes (NoRoom q) p = inr (inr p)
-  nothing-left a b bytes TooLarge p = inr (inr p)
-
-  pub sink-nothing : {A : Type 0} (a b : W) (bytes : List ℕ) (r : Result A DrawError) → IfErr r (IsLeftOff took broke a bytes b) →
-      IfErr r (λ e. (e ≡ Write) ⊎ ((error : AllocError) × (e ≡ Memory error)) ⊎ (b ≡ a))
-  sink-nothing a b bytes (Ok x) p = tt
-  sink-nothing a b bytes (Err e) p = nothing-left a b bytes e p
+  nothing-left : (a b : W) (bytes : List ℕ) (error : DrawError) → IsLeftOff took broke a bytes b error → IsRefusal error → b ≡ a
+  nothing-left a b bytes (Memory e) p named = absurd named
+  nothing-left a b bytes Write p named = absurd named
+  nothing-left a b bytes (OutOfTable q) p named = p
+  nothing-left a b bytes (NotTiled q) p named = p
+  nothing-left a b bytes (NoRoom q) p named = p
+  nothing-left a b bytes TooLarge p named = p
 
   -- the sink has ended where a text broke off
   ended-broken : (a b : W) (bytes : List ℕ) → BreaksOff took broke a bytes b → HasEnded contents has_failed has_stalled a b
@@ -109,13 +100,9 @@ module _ {W : Type 0} (contents : W → Option (List ℕ)) (has_failed has_stall
     | inr stalls ↦ inr (λ not_before. stalls ((taken-calls a p.taken p.between p.calls).moves ∙ not_before))
   ]
 
-  pub sink-ended : {A : Type 0} (a b : W) (bytes : List ℕ) (r : Result A DrawError) → IfErr r (IsLeftOff took broke a bytes b) → IsErrOf r Write →
-      HasEnded contents has_failed has_stalled a b
-  sink-ended {A = A} a b bytes r p is = ended-broken a b bytes (subst (λ (s : Result A DrawError). IfErr s (IsLeftOff took broke a bytes b)) is p)
-
   -- but for a write that failed, it failed and stalled no more than before
   steady-left : (a b : W) (bytes : List ℕ) (error : DrawError) → IsLeftOff took broke a bytes b error →
-      (error ≡ Write) ⊎ ((has_failed b ≡ has_failed a) × (has_stalled b ≡ has_stalled a))
+      (error ≡ Write) ⊎ IsSteady contents has_failed has_stalled a b
   steady-left a b bytes (Memory e) p = let all = taken-calls a p.taken b p.calls in inr (all.works, all.moves)
   steady-left a b bytes Write p = inl refl
   steady-left a b bytes (OutOfTable q) p = inr (ap has_failed p, ap has_stalled p)
@@ -123,7 +110,85 @@ module _ {W : Type 0} (contents : W → Option (List ℕ)) (has_failed has_stall
   steady-left a b bytes (NoRoom q) p = inr (ap has_failed p, ap has_stalled p)
   steady-left a b bytes TooLarge p = inr (ap has_failed p, ap has_stalled p)
 
-  pub sink-steady : {A : Type 0} (a b : W) (bytes : List ℕ) (r : Result A DrawError) → IfErr r (IsLeftOff took broke a bytes b) →
-      IfErr r (λ e. (e ≡ Write) ⊎ ((has_failed b ≡ has_failed a) × (has_stalled b ≡ has_stalled a)))
-  sink-steady a b bytes (Ok x) p = tt
-  sink-steady a b bytes (Err e) p = steady-left a b bytes e p
+  -- so is what is left after an error
+  pub sink-left : {A : Type 0} (a b : W) (bytes : List ℕ) (r : Result A DrawError) → IfErr r (IsLeftOff took broke a bytes b) →
+      IfErr r (IsCutOff contents has_failed has_stalled a bytes b)
+  sink-left a b bytes (Ok x) p = tt
+  sink-left a b bytes (Err e) p = record {
+    nothing = nothing-left a b bytes e p;
+    beginning = beginning-left a b bytes e p;
+    write = λ is. ended-broken a b bytes (subst (IsLeftOff took broke a bytes b) is p);
+    steady = steady-left a b bytes e p;
+  }
+
+  -- a sink that is as it was, where no write failed
+  pub cut-off-before : (a : W) (bytes : List ℕ) (error : DrawError) → error ≢ Write → IsCutOff contents has_failed has_stalled a bytes a error
+  cut-off-before a bytes error works = record {
+    nothing = λ named. refl;
+    beginning = beginning-none a a bytes refl;
+    write = λ is. absurd (works is);
+    steady = inr (refl, refl);
+  }
+
+  -- a beginning and then a text that broke off
+  pub cut-off-after : (a b c : W) (xs whole : List ℕ) → took a xs b → HasEnded contents has_failed has_stalled b c → HasBegun contents has_failed has_stalled a whole c →
+      IsCutOff contents has_failed has_stalled a whole c Write
+  cut-off-after a b c xs whole p ended begun = record {
+    nothing = λ named. absurd named;
+    beginning = begun;
+    write = λ is. elim ended [
+      | inl failed ↦ inl failed
+      | inr stalls ↦ inr (λ not_before. stalls (p.moves ∙ not_before))
+    ];
+    steady = inl refl;
+  }
+
+  -- ---- calls that draw
+
+  module _ (IsDrawn : Drawing → Type 0) (IsFault : DrawError → Type 0) (text_of : Drawing → List ℕ) where
+    -- there is no drawing
+    pub draws-none : (w : W) (e : DrawError) → e ≢ Write → (IsRefusal e → IsFault e) → IsUndrawn contents has_failed has_stalled IsDrawn IsFault text_of w w e
+    draws-none w e works fault = record {
+      fault = fault;
+      nothing = λ named. refl;
+      beginning = inl refl;
+      write = λ is. absurd (works is);
+      steady = inr (refl, refl);
+    }
+
+    -- there is one, and its text was taken, or not
+    pub draws-so : {A : Type 0} (d : Drawing) → IsDrawn d → ((e : DrawError) → IsDrawFault d e → IsFault e) → (old new : W) (result : Result A DrawError) →
+        OnOk result (took old (text_of d) new) → IfErr result (IsDrawFault d) → IfErr result (IsCutOff contents has_failed has_stalled old (text_of d) new) →
+        WritesPicture contents has_failed has_stalled IsDrawn IsFault text_of old new result
+    draws-so d is follows old new (Ok x) taken fault left = (d, is, taken)
+    draws-so d is follows old new (Err e) taken fault left = record {
+      fault = λ named. follows e fault;
+      nothing = left.nothing;
+      beginning = inr (d, is, left.beginning);
+      write = left.write;
+      steady = left.steady;
+    }
+
+    -- what follows of the drawing and of the fault
+    pub draws-also : (IsAlso : Drawing → Type 0) (IsWhy : DrawError → Type 0) → ((d : Drawing) → IsDrawn d → IsAlso d) → ((e : DrawError) → IsFault e → IsWhy e) →
+        {A : Type 0} (old new : W) (result : Result A DrawError) → WritesPicture contents has_failed has_stalled IsDrawn IsFault text_of old new result →
+        WritesPicture contents has_failed has_stalled IsAlso IsWhy text_of old new result
+    draws-also IsAlso IsWhy also why old new (Ok x) so = (so.0, also so.0 so.1, so.2)
+    draws-also IsAlso IsWhy also why old new (Err e) so = record {
+      fault = λ named. why e (so.fault named);
+      nothing = so.nothing;
+      beginning = elim so.beginning [ inl same ↦ inl same | inr begun ↦ inr (begun.0, also begun.0 begun.1, begun.2) ];
+      write = so.write;
+      steady = so.steady;
+    }
+
+    -- the same by its two outcomes
+    pub picture-written : {A : Type 0} (old new : W) (result : Result A DrawError) → WritesPicture contents has_failed has_stalled IsDrawn IsFault text_of old new result →
+        OnOk result ((d : Drawing) × IsDrawn d × took old (text_of d) new)
+    picture-written old new (Ok x) so = so
+    picture-written old new (Err e) so = tt
+
+    pub picture-undrawn : {A : Type 0} (old new : W) (result : Result A DrawError) → WritesPicture contents has_failed has_stalled IsDrawn IsFault text_of old new result →
+        IfErr result (IsUndrawn contents has_failed has_stalled IsDrawn IsFault text_of old new)
+    picture-undrawn old new (Ok x) so = tt
+    picture-undrawn old new (Err e) so = so

@@ -13,6 +13,7 @@ pub mod Laws
 pub mod Margins
 pub mod Pieces
 pub mod Separated
+pub mod Sinks
 pub mod Sources
 pub mod Tiles
 pub mod Transfer

@@ -1,7 +1,8 @@
 //! How a text is delivered: to a sink by its bytes, and to a writer of text as it is.
 
 ghost use Rattle.std.specs.Prelude.{ℕ, List, OnErr, OnOk, ⊤};
-ghost use Rattle.papergrid_draw.specs.ForProofs.Sinks.{IsBroken, IsTaken};
+ghost use Rattle.papergrid_draw.specs.ForProofs.Sinks.{IsBroken};
+ghost use Rattle.papergrid_draw.specs.Sinks.{IsTaken};
 
 use crate::transfer::{Failed, Sink, write_all};
 use std::fmt;

@@ -1,8 +1,7 @@
 //! The picture of a table, written line by line.
 
-ghost use Rattle.std.specs.Prelude.{◌≡◌, ◌-◌, ◌^◌, ◌<◌, ◌⊎◌, ◌≢◌, ℕ, ⊤, IfErr, IfOk, IsErrOf, OnErr, OnOk, false, string_bytes, take, true};
+ghost use Rattle.std.specs.Prelude.{◌≡◌, ◌-◌, ◌^◌, ◌<◌, ◌≢◌, ⊤, IfErr, IfOk, OnOk, string_bytes};
 ghost use Rattle.std.specs.Fmt.{WritesInCalls};
-ghost use Rattle.std.specs.Io.KnownBytes.{Appends};
 ghost use Rattle.std.specs.List.{join_with_byte};
 ghost use Rattle.std.specs.Option.{SomeIff};
 ghost use Rattle.papergrid_layout.specs.Tables.{view_of};
@@ -11,6 +10,7 @@ ghost use Rattle.papergrid_draw.specs.Drawings.{drawn_of};
 ghost use Rattle.papergrid_draw.specs.Drawn.{drawn_lines};
 ghost use Rattle.papergrid_draw.specs.Faults.{AllHaveRoom, IsDrawFault, whole_height};
 ghost use Rattle.papergrid_draw.specs.Margins.{printed, printed_lines, whole_width};
+ghost use Rattle.papergrid_draw.specs.Sinks.{IsCutOff, IsTaken};
 ghost use Rattle.papergrid_draw.specs.Tiles.{IsTiled};
 ghost use Rattle.papergrid_draw.specs.ForProofs.Pages.{IsFrame, Texts, drawing_of};
 ghost use Rattle.papergrid_draw.specs.ForProofs.Sheets.{Draws, Writes, WritesLines, margined};
@@ -53,21 +53,11 @@ pub fn draw_cells<'a, S: Cells, W: Sink>(
 where
     S::Cell: Drop,
     requires { room ≡ Room.Known → AllHaveRoom (drawn_of S.lines S.color table.now cells.now) }
-    ensures picture { OnOk result (Appends (W.contents sink.old) (W.contents sink.new)
-        (printed (drawn_of S.lines S.color table.now cells.now))) }
-    ensures works { OnOk result (W.has_failed sink.new ≡ W.has_failed sink.old) }
-    ensures moves { OnOk result (W.has_stalled sink.new ≡ W.has_stalled sink.old) }
+    ensures picture { OnOk result (IsTaken W.contents W.has_failed W.has_stalled sink.old
+        (printed (drawn_of S.lines S.color table.now cells.now)) sink.new) }
     ensures fault { IfErr result (IsDrawFault (drawn_of S.lines S.color table.now cells.now)) }
-    ensures nothing { IfErr result (λ e. (e ≡ Write) ⊎ ((error : AllocError) × (e ≡ Memory error))
-        ⊎ (sink.new ≡ sink.old)) }
-    ensures beginning { OnErr result ((n : ℕ)
-        × Appends (W.contents sink.old) (W.contents sink.new)
-        (take n (printed (drawn_of S.lines S.color table.now cells.now)))) }
-    ensures write { IsErrOf result DrawError.Write → (W.has_failed sink.new ≡ true)
-        ⊎ (W.has_stalled sink.old ≡ false → W.has_stalled sink.new ≡ true) }
-    ensures steady { IfErr result (λ e. (e ≡ Write)
-        ⊎ ((W.has_failed sink.new ≡ W.has_failed sink.old)
-        × (W.has_stalled sink.new ≡ W.has_stalled sink.old))) }
+    ensures left { IfErr result (IsCutOff W.contents W.has_failed W.has_stalled sink.old
+        (printed (drawn_of S.lines S.color table.now cells.now)) sink.new) }
 {
     draw_by::<S, ToSink, W>(alloc, table, cells, room, sink)
 }

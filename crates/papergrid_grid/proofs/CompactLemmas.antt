@@ -1,5 +1,5 @@
 -- The drawing of a table whose cells are all alike.
-use Rattle.std.proofs.Common.{◌≡◌, ◌≢◌, ◌⊎◌, ◌∙◌, ◌+◌, ◌≤◌, ℕ, zero, suc, Global, List, Option, Vec, ap, arith, inl, inr, length, map, refl, subst, sym}
+use Rattle.std.proofs.Common.{◌≡◌, ◌≢◌, ◌⊎◌, ◌∙◌, ◌+◌, ◌≤◌, ℕ, Bool, zero, suc, Global, List, Option, Vec, ap, arith, inl, inr, length, map, refl, subst, sym}
 use Rattle.std.specs.Prelude.{⊤, slice_index}
 use Rattle.std.specs.List.{range_with_len, sum_by}
 use Rattle.std.specs.declared.alloc.AllocError.{AllocError}
@@ -13,10 +13,12 @@ use Rattle.papergrid_draw.specs.Deliveries.{IsLeftOff}
 use Rattle.papergrid_draw.specs.Drawings.{Drawing, drawn_of, layout_of}
 use Rattle.papergrid_draw.specs.Margins.{printed}
 use Rattle.papergrid_draw.specs.declared.error.DrawError.{DrawError}
-use Rattle.papergrid_draw.specs.declared.error.DrawError.TheVariants.{Memory, TooLarge}
+use Rattle.papergrid_draw.specs.declared.error.DrawError.TheVariants.{Memory, TooLarge, Write}
+use Rattle.papergrid_draw.specs.Sinks.{IsCutOff}
+use Rattle.papergrid_draw.proofs.SinkLemmas.{cut-off-before}
 use Rattle.papergrid_grid.specs.Cells.{lines_at}
-use Rattle.papergrid_grid.specs.Compact.{AreRowsTooHigh, IsCompactDrawing, IsCompactFault, IsCompactTable, compact_height, first_line}
-use Rattle.papergrid_grid.specs.Sized.{UnlessMemoryFails, drawing_of_rows, parts_of, texts_at}
+use Rattle.papergrid_grid.specs.Compact.{AreRowsTooHigh, IsCompactDrawing, IsCompactTable, compact_height, first_line}
+use Rattle.papergrid_grid.specs.Sized.{IsGridFault, UnlessMemoryFails, drawing_of_rows, parts_of, texts_at}
 use Rattle.papergrid_grid.specs.declared.equal_rows.CompactTable.{CompactTable}
 use Rattle.papergrid_grid.proofs.GridLemmas.{drawn_rows, unless_memory}
 
@@ -69,9 +71,9 @@ module _ {T : Type 0} (text : T → List ℕ) (tells : List (List T) → Type 0)
   -- so, where they are not drawn, this is why
   pub refused : (color : Position → Option (List ℕ × List ℕ)) (e : DrawError) →
       ((error : AllocError) × (e ≡ Memory error)) ⊎ ((e ≡ TooLarge) × AreRowsTooHigh tells compact) →
-      UnlessMemoryFails e ((d : Drawing) × IsCompactDrawing text tells columns compact widths color d × IsCompactFault d e)
+      UnlessMemoryFails e ((d : Drawing) × IsCompactDrawing text tells columns compact widths color d × IsGridFault d e)
   refused color e (inl (error, is)) =
-      subst (λ x. UnlessMemoryFails x ((d : Drawing) × IsCompactDrawing text tells columns compact widths color d × IsCompactFault d x)) (sym is) tt
+      subst (λ x. UnlessMemoryFails x ((d : Drawing) × IsCompactDrawing text tells columns compact widths color d × IsGridFault d x)) (sym is) tt
   refused color e (inr (is, high)) =
       let drawn = drawn_too_large color high in unless_memory e (drawn.0, drawn.1, inl (is, drawn.2))
 
@@ -84,3 +86,13 @@ module _ {T : Type 0} (text : T → List ℕ) (tells : List (List T) → Type 0)
   left_as_it_was takes old color e (inr (is, high)) =
       let drawn = drawn_too_large color high in
       inr (drawn.0, drawn.1, subst (λ x. IsLeftOff takes (λ _ _ _. ⊤) old (printed drawn.0) old x) (sym is) refl)
+
+  -- and so is a sink
+  pub sink_as_it_was : {W : Type 0} (contents : W → Option (List ℕ)) (has_failed has_stalled : W → Bool) (old : W) (color : Position → Option (List ℕ × List ℕ)) (e : DrawError) →
+      ((error : AllocError) × (e ≡ Memory error)) ⊎ ((e ≡ TooLarge) × AreRowsTooHigh tells compact) →
+      ((error : AllocError) × (e ≡ Memory error) × (old ≡ old))
+      ⊎ ((d : Drawing) × IsCompactDrawing text tells columns compact widths color d × IsCutOff contents has_failed has_stalled old (printed d) old e)
+  sink_as_it_was contents has_failed has_stalled old color e (inl (error, is)) = inl (error, is, refl)
+  sink_as_it_was contents has_failed has_stalled old color e (inr (is, high)) =
+      let drawn = drawn_too_large color high in
+      inr (drawn.0, drawn.1, cut-off-before contents has_failed has_stalled old (printed drawn.0) e (λ write. let never : TooLarge ≡ Write = sym is ∙ write in cc never))

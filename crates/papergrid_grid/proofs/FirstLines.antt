@@ -1,5 +1,5 @@
 -- The first of std's lines, and the lines of cells that are made of other cells.
-use Rattle.std.proofs.Common.{◌≡◌, ◌≢◌, ◌∙◌, ℕ, Bool, true, false, List, [], ◌∷◌, None, Option, Some, ap, map, refl, sym, length, take, arith}
+use Rattle.std.proofs.Common.{◌≡◌, ◌≢◌, ◌∙◌, ℕ, Bool, true, false, List, [], ◌∷◌, None, Option, Some, ap, map, refl, sym, take, arith}
 use Rattle.std.specs.Prelude.{MatchOption, option_and_then, option_map, slice_get, slice_index_or, if◌then◌else◌}
 use Rattle.std.specs.Iterator.{AlwaysYields}
 use Rattle.std.specs.List.{All}

@@ -13,15 +13,15 @@ use Rattle.papergrid_grid.specs.Sized.{IsGridFault, UnlessMemoryFails, drawing_o
 use Rattle.papergrid_grid.proofs.HeldLemmas.{lines_of_texts}
 
 -- as any table
-as_any : {A : Type 0} (parts : TableParts) (d : Drawing) (r : Result A DrawError) → IfErr r (IsDrawFault d) → IfErr r (IsGridFault parts d)
-as_any parts d (Ok x) is = tt
-as_any parts d (Err e) is = inr is
+as_any : {A : Type 0} (d : Drawing) (r : Result A DrawError) → IfErr r (IsDrawFault d) → IfErr r (IsGridFault d)
+as_any d (Ok x) is = tt
+as_any d (Err e) is = inr is
 
 pub grid_fault : {A C : Type 0} (lines : C → Position → List (List ℕ × ℕ)) (color : C → Position → Option (List ℕ × List ℕ))
     (table parts : TableParts) (cells : C) (r : Result A DrawError) →
-    table ≡ parts → IfErr r (IsDrawFault (drawn_of lines color table cells)) → IfErr r (IsGridFault parts (drawn_of lines color parts cells))
+    table ≡ parts → IfErr r (IsDrawFault (drawn_of lines color table cells)) → IfErr r (IsGridFault (drawn_of lines color parts cells))
 grid_fault lines color table parts cells r same is =
-    as_any parts (drawn_of lines color parts cells) r (subst (λ (t : TableParts). IfErr r (IsDrawFault (drawn_of lines color t cells))) same is)
+    as_any (drawn_of lines color parts cells) r (subst (λ (t : TableParts). IfErr r (IsDrawFault (drawn_of lines color t cells))) same is)
 
 -- what holds of a table and its drawing holds of those with equal counts, rows and colours
 pub drawn_same : {T C K : Type 0} (lines : T → List (List ℕ × ℕ)) (texts : K → List ℕ × List ℕ) (color_at : C → Position → Option K)

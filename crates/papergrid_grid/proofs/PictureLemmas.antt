@@ -1,8 +1,6 @@
 -- The sizes of cells that are seen through a view, and what is drawn with them.
-use Rattle.std.proofs.Common.{◌≡◌, ◌≢◌, ◌∙◌, ◌⊎◌, ℕ, Bool, List, [], Option, None, Some, Result, Ok, Err, OnErr, OnOk, IfErr, map, ap, inl, inr, refl, subst, sym, take}
-use Rattle.std.specs.Io.KnownBytes.{Appends}
-use Rattle.std.specs.Prelude.{IsErrOf, option_and_then, slice_get, slice_index_or}
-use Rattle.std.specs.declared.alloc.AllocError.{AllocError}
+use Rattle.std.proofs.Common.{◌≡◌, ◌≢◌, ◌∙◌, ℕ, Bool, List, [], Option, None, Some, Result, Ok, Err, OnOk, IfErr, map, ap, inl, inr, refl, subst, sym}
+use Rattle.std.specs.Prelude.{option_and_then, slice_get, slice_index_or}
 use Rattle.std.proofs.lemmas.Option.{get_or_from_slice_get, slice_get-get_or, slice_get_cases}
 use Rattle.papergrid_values.specs.declared.position.Position.{Position}
 use Rattle.papergrid_values.specs.declared.direction.Direction.TheVariants.{Columns, Rows}
@@ -34,9 +32,9 @@ use Rattle.papergrid_draw.specs.declared.error.DrawError.TheVariants as draw_err
 use Rattle.papergrid_walk.specs.Measures.{text_measure}
 use Rattle.papergrid_grid.specs.Cells.{lines_at, text_lines}
 use Rattle.papergrid_config.specs.Laws.{IsConfiguredBy}
-use Rattle.papergrid_grid.specs.Pictures.{IsDrawingBy, IsDrawingWith, IsFaultWith, IsPictureFault, IsRefusal, Undrawn, Unsized, texts_drawing}
-use Rattle.papergrid_grid.specs.ForProofs.Drawn.{IsSteady, IsUndrawn, WritesPicture}
-use Rattle.papergrid_draw.specs.ForProofs.Sinks.{HasEnded}
+use Rattle.papergrid_grid.specs.Pictures.{IsDrawingBy, IsDrawingWith, IsFaultWith, IsPictureFault, Undrawn, Unsized, texts_drawing}
+use Rattle.papergrid_draw.specs.Sinks.{IsCutOff, IsRefusal, IsTaken, IsUndrawn, WritesPicture}
+use Rattle.papergrid_draw.proofs.SinkLemmas.{draws-none, draws-so}
 
 module _ {A : Type 0} (view : A → List ℕ) (config : SpannedConfig) (columns : ℕ) (cells : List (List A)) (texts : List (List (List ℕ)))
     (same : map (map view) cells ≡ texts) where
@@ -124,117 +122,54 @@ pub room-with : (columns : ℕ) (texts : List (List (List ℕ))) (sizing : Sizin
 room-with columns texts sizing config d is =
     subst AllHaveRoom (sym is.is) (room-in config columns texts sizing is.widths is.heights (λ _. None) is.sized)
 
--- a refusal leaves the writer as it was, where only a failed write or allocation may change it
-pub same-writer : {W : Type 0} (old new : W) (e : DrawError) → IsRefusal e → (e ≡ draw_errors.Write) ⊎ ((error : AllocError) × (e ≡ draw_errors.Memory error)) ⊎ (new ≡ old) → new ≡ old
-same-writer old new (draw_errors.Memory error) named how = absurd named
-same-writer old new draw_errors.Write named how = absurd named
-same-writer old new (draw_errors.OutOfTable p) named (inl same) = absurd (let none : ⊥ = cc in none)
-same-writer old new (draw_errors.OutOfTable p) named (inr (inl same)) = absurd (let none : ⊥ = (let is = same.1 in cc) in none)
-same-writer old new (draw_errors.OutOfTable p) named (inr (inr same)) = same
-same-writer old new (draw_errors.NotTiled p) named (inl same) = absurd (let none : ⊥ = cc in none)
-same-writer old new (draw_errors.NotTiled p) named (inr (inl same)) = absurd (let none : ⊥ = (let is = same.1 in cc) in none)
-same-writer old new (draw_errors.NotTiled p) named (inr (inr same)) = same
-same-writer old new (draw_errors.NoRoom p) named (inl same) = absurd (let none : ⊥ = cc in none)
-same-writer old new (draw_errors.NoRoom p) named (inr (inl same)) = absurd (let none : ⊥ = (let is = same.1 in cc) in none)
-same-writer old new (draw_errors.NoRoom p) named (inr (inr same)) = same
-same-writer old new draw_errors.TooLarge named (inl same) = absurd (let none : ⊥ = cc in none)
-same-writer old new draw_errors.TooLarge named (inr (inl same)) = absurd (let none : ⊥ = (let is = same.1 in cc) in none)
-same-writer old new draw_errors.TooLarge named (inr (inr same)) = same
+-- an error of a layout is no failed write
+pub no-write : (e : LayoutError) → draw_error_of e ≢ draw_errors.Write
+no-write (layout_errors.OutOfTable p) is = cc
+no-write layout_errors.TooLarge is = cc
+no-write (layout_errors.Memory e) is = cc
+
+-- no cell lacks room in sizes that are found for it
+pub has-room : (columns : ℕ) (texts : List (List (List ℕ))) (sizing : Sizing) (config : SpannedConfig) (e : DrawError) → IsFaultWith columns texts sizing config e →
+    (p : Position) → e ≢ draw_errors.NoRoom p
+has-room columns texts sizing config e (Unsized error same are) p is = none error (sym same ∙ is)
+  where
+    none : (error : LayoutError) → draw_error_of error ≢ draw_errors.NoRoom p
+    none (layout_errors.OutOfTable q) is = cc
+    none layout_errors.TooLarge is = cc
+    none (layout_errors.Memory e) is = cc
+has-room columns texts sizing config e (Undrawn d drawn fault) p is = room-with columns texts sizing config d drawn p (subst (IsDrawFault d) is fault).1.it
+
+-- so of what is written by a configuration
+pub picture-has-room : {W A : Type 0} (contents : W → Option (List ℕ)) (has_failed has_stalled : W → Bool) (IsDrawn : Drawing → Type 0) (text_of : Drawing → List ℕ)
+    (columns : ℕ) (texts : List (List (List ℕ))) (sizing : Sizing) (config : SpannedConfig) (old new : W) (result : Result A DrawError) →
+    WritesPicture contents has_failed has_stalled IsDrawn (IsFaultWith columns texts sizing config) text_of old new result → IfErr result (λ e. (p : Position) → e ≢ draw_errors.NoRoom p)
+picture-has-room contents has_failed has_stalled IsDrawn text_of columns texts sizing config old new (Ok x) so = tt
+picture-has-room contents has_failed has_stalled IsDrawn text_of columns texts sizing config old new (Err e) so =
+    λ p is. has-room columns texts sizing config e (so.fault (subst IsRefusal (sym is) tt)) p is
 
 -- what is known of a call that draws by a configuration, with the sizes that are chosen so
 module _ {W : Type 0} (contents : W → Option (List ℕ)) (has_failed has_stalled : W → Bool) (config : SpannedConfig) (columns : ℕ) (texts : List (List (List ℕ)))
     (sizing : Sizing) (text_of : Drawing → List ℕ) where
-  abbrev AnswersSo : {A : Type 0} → W → W → Result A DrawError → Type 0
-  AnswersSo old new result = WritesPicture contents has_failed has_stalled (IsDrawingWith columns texts sizing config) (IsFaultWith columns texts sizing config) text_of old new result
-
   -- there are no sizes
   pub unsized : (w : W) (e : LayoutError) → UnlessMemoryError e (AreNoSizesBySizing config text_measure columns texts sizing e) →
       IsUndrawn contents has_failed has_stalled (IsDrawingWith columns texts sizing config) (IsFaultWith columns texts sizing config) text_of w w (draw_error_of e)
-  unsized w e are = record {
-    fault = named e are;
-    nothing = λ _. refl;
-    beginning = inl refl;
-    write = λ is. absurd (never e is);
-    steady = inr (refl, refl);
-    room = λ p. has_room e p;
-  }
+  unsized w e are = draws-none contents has_failed has_stalled (IsDrawingWith columns texts sizing config) (IsFaultWith columns texts sizing config) text_of w (draw_error_of e) (no-write e) (named e are)
     where
       named : (e : LayoutError) → UnlessMemoryError e (AreNoSizesBySizing config text_measure columns texts sizing e) → IsRefusal (draw_error_of e) → IsFaultWith columns texts sizing config (draw_error_of e)
       named (layout_errors.OutOfTable p) are is = Unsized (layout_errors.OutOfTable p) refl are
       named layout_errors.TooLarge are is = Unsized layout_errors.TooLarge refl are
       named (layout_errors.Memory e) are is = absurd is
 
-      never : (e : LayoutError) → draw_error_of e ≡ draw_errors.Write → ⊥
-      never (layout_errors.OutOfTable p) is = cc
-      never layout_errors.TooLarge is = cc
-      never (layout_errors.Memory e) is = cc
-
-      has_room : (e : LayoutError) (p : Position) → draw_error_of e ≢ draw_errors.NoRoom p
-      has_room (layout_errors.OutOfTable q) p is = cc
-      has_room layout_errors.TooLarge p is = cc
-      has_room (layout_errors.Memory e) p is = cc
-
   -- there are, and it was drawn with them, or not
   pub drawn-so : {A : Type 0} (d : Drawing) → IsDrawingWith columns texts sizing config d → (old new : W) (result : Result A DrawError) →
-      OnOk result (Appends (contents old) (contents new) (text_of d)) → OnOk result (has_failed new ≡ has_failed old) → OnOk result (has_stalled new ≡ has_stalled old) →
-      IfErr result (IsDrawFault d) → IfErr result (λ e. (e ≡ draw_errors.Write) ⊎ ((error : AllocError) × (e ≡ draw_errors.Memory error)) ⊎ (new ≡ old)) →
-      OnErr result ((n : ℕ) × Appends (contents old) (contents new) (take n (text_of d))) →
-      (IsErrOf result draw_errors.Write → HasEnded contents has_failed has_stalled old new) →
-      IfErr result (λ e. (e ≡ draw_errors.Write) ⊎ IsSteady contents has_failed has_stalled old new) → AnswersSo old new result
-  drawn-so d is old new (Ok x) taken works moves fault nothing begun write steady = (d, is, record { taken = taken; works = works; moves = moves })
-  drawn-so d is old new (Err e) taken works moves fault nothing begun write steady = record {
-    fault = λ named. Undrawn d is fault;
-    nothing = λ named. same-writer old new e named nothing;
-    beginning = inr (d, is, begun);
-    write = λ same. write (ap Err same);
-    steady = steady;
-    room = λ p none. room-with columns texts sizing config d is p (subst (IsDrawFault d) none fault).1.it;
-  }
+      OnOk result (IsTaken contents has_failed has_stalled old (text_of d) new) → IfErr result (IsDrawFault d) → IfErr result (IsCutOff contents has_failed has_stalled old (text_of d) new) →
+      WritesPicture contents has_failed has_stalled (IsDrawingWith columns texts sizing config) (IsFaultWith columns texts sizing config) text_of old new result
+  drawn-so d is = draws-so contents has_failed has_stalled (IsDrawingWith columns texts sizing config) (IsFaultWith columns texts sizing config) text_of d is (λ e fault. Undrawn d is fault)
 
 -- by a configuration that settings tell
-module _ {W : Type 0} (contents : W → Option (List ℕ)) (has_failed has_stalled : W → Bool) (settings : List Setting) (config : SpannedConfig) (told : IsConfiguredBy settings config)
-    (columns : ℕ) (texts : List (List (List ℕ))) (sizing : Sizing) where
-  module _ {A : Type 0} (text_of : Drawing → List ℕ) (old new : W) where
-    abbrev So : Result A DrawError → Type 0
-    So result = WritesPicture contents has_failed has_stalled (IsDrawingWith columns texts sizing config) (IsFaultWith columns texts sizing config) text_of old new result
+module _ (settings : List Setting) (config : SpannedConfig) (told : IsConfiguredBy settings config) (columns : ℕ) (texts : List (List (List ℕ))) (sizing : Sizing) where
+  pub drawn-by-settings : (d : Drawing) → IsDrawingWith columns texts sizing config d → IsDrawingBy columns texts sizing settings d
+  drawn-by-settings d is = (config, told, is)
 
-    pub draw-picture : (result : Result A DrawError) → So result →
-        OnOk result ((d : Drawing) × IsDrawingBy columns texts sizing settings d × Appends (contents old) (contents new) (text_of d))
-    draw-picture (Ok x) so = (so.0, (config, told, so.1), so.2.taken)
-    draw-picture (Err e) so = tt
-
-    pub draw-works : (result : Result A DrawError) → So result → OnOk result (has_failed new ≡ has_failed old)
-    draw-works (Ok x) so = so.2.works
-    draw-works (Err e) so = tt
-
-    pub draw-moves : (result : Result A DrawError) → So result → OnOk result (has_stalled new ≡ has_stalled old)
-    draw-moves (Ok x) so = so.2.moves
-    draw-moves (Err e) so = tt
-
-    pub draw-fault : (result : Result A DrawError) → So result → IfErr result (λ e. IsRefusal e → IsPictureFault columns texts sizing settings e)
-    draw-fault (Ok x) so = tt
-    draw-fault (Err e) so = λ named. (config, told, so.fault named)
-
-    pub draw-nothing : (result : Result A DrawError) → So result → IfErr result (λ e. IsRefusal e → new ≡ old)
-    draw-nothing (Ok x) so = tt
-    draw-nothing (Err e) so = so.nothing
-
-    pub draw-beginning : (result : Result A DrawError) → So result →
-        OnErr result ((new ≡ old) ⊎ ((d : Drawing) × IsDrawingBy columns texts sizing settings d × ((n : ℕ) × Appends (contents old) (contents new) (take n (text_of d)))))
-    draw-beginning (Ok x) so = tt
-    draw-beginning (Err e) so = elim so.beginning [
-      | inl same ↦ inl same
-      | inr begun ↦ inr (begun.0, (config, told, begun.1), begun.2)
-    ]
-
-    pub draw-write : (result : Result A DrawError) → So result → IsErrOf result draw_errors.Write → HasEnded contents has_failed has_stalled old new
-    draw-write (Ok x) so is = absurd (let none : ⊥ = cc in none)
-    draw-write (Err e) so is = let same : e ≡ draw_errors.Write = cc in so.write same
-
-    pub draw-steady : (result : Result A DrawError) → So result → IfErr result (λ e. (e ≡ draw_errors.Write) ⊎ IsSteady contents has_failed has_stalled old new)
-    draw-steady (Ok x) so = tt
-    draw-steady (Err e) so = so.steady
-
-    pub draw-room : (result : Result A DrawError) → So result → IfErr result (λ e. (p : Position) → e ≢ draw_errors.NoRoom p)
-    draw-room (Ok x) so = tt
-    draw-room (Err e) so = so.room
+  pub fault-by-settings : (e : DrawError) → IsFaultWith columns texts sizing config e → IsPictureFault columns texts sizing settings e
+  fault-by-settings e is = (config, told, is)

@@ -1,5 +1,5 @@
 -- The picture of a table whose cells are all alike: the first line of each text.
-use Rattle.std.specs.Prelude.{◌≡◌, ◌≢◌, ◌≤◌, ◌+◌, ◌^◌, ◌⊎◌, ℕ, List, [], ◌∷◌, Option, length, map, slice_index_or}
+use Rattle.std.specs.Prelude.{◌≡◌, ◌≢◌, ◌≤◌, ◌+◌, ◌^◌, ℕ, List, [], ◌∷◌, Option, length, map, slice_index_or}
 use Rattle.std.specs.Str.Lines.{lines as std_lines}
 use Rattle.papergrid_values.specs.declared.position.Position.{Position}
 use Rattle.papergrid_text.specs.Text.{with_width}
@@ -7,11 +7,7 @@ use Rattle.papergrid_values.specs.declared.compact.CompactConfig.{CompactConfig}
 use Rattle.papergrid_config.specs.History.{HasSettingHistory}
 use Rattle.papergrid_config.specs.Made.{compact_settings}
 use Rattle.papergrid_config.specs.declared.spanned.SpannedConfig.{SpannedConfig}
-use Rattle.papergrid_draw.specs.Drawings.{Drawing, layout_of}
-use Rattle.papergrid_draw.specs.Faults.{IsDrawFault}
-use Rattle.papergrid_draw.specs.declared.error.DrawError.{DrawError}
-use Rattle.papergrid_draw.specs.declared.error.DrawError.TheVariants.{TooLarge}
-use Rattle.papergrid_layout.specs.Tables.{IsTotalTooLarge}
+use Rattle.papergrid_draw.specs.Drawings.{Drawing}
 use Rattle.papergrid_grid.specs.declared.equal_rows.CompactTable.{CompactTable}
 use Rattle.papergrid_grid.specs.Sized.{drawing_of_rows, parts_of}
 
@@ -56,7 +52,3 @@ module _ {C : Type 0} (text : C → List ℕ) (tells : List (List C) → Type 0)
     pub told : tells cells
     pub is : d ≡ drawing_of_rows (λ cell. first_line (text cell))
         (parts_of config widths (λ _. compact_height compact) (length cells, columns)) cells color
-
--- why it is not drawn: a total without margins is too large, or as any drawing
-abbrev pub IsCompactFault : Drawing → DrawError → Type 0
-IsCompactFault d e = ((e ≡ TooLarge) × IsTotalTooLarge (layout_of d)) ⊎ IsDrawFault d e

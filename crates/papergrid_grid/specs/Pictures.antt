@@ -1,5 +1,5 @@
 -- The pictures of texts: the drawing by a configuration, or by settings that tell one, and why there is none.
-use Rattle.std.specs.Prelude.{◌≡◌, ⊤, ℕ, List, None, length, map, slice_index}
+use Rattle.std.specs.Prelude.{◌≡◌, ℕ, List, None, length, map, slice_index}
 use Rattle.papergrid_text.specs.HeldRows.{rows_held}
 use Rattle.papergrid_text.specs.declared.vec_records.VecRecords.{VecRecords}
 use Rattle.papergrid_config.specs.declared.setting.Setting.{Setting}
@@ -11,7 +11,6 @@ use Rattle.papergrid_draw.specs.Drawings.{Drawing}
 use Rattle.papergrid_draw.specs.Errors.{draw_error_of}
 use Rattle.papergrid_draw.specs.Faults.{IsDrawFault}
 use Rattle.papergrid_draw.specs.declared.error.DrawError.{DrawError}
-use Rattle.papergrid_draw.specs.declared.error.DrawError.TheVariants.{Memory, Write}
 use Rattle.papergrid_grid.specs.Cells.{lines_at, text_lines}
 use Rattle.papergrid_walk.specs.Measures.{text_measure}
 use Rattle.papergrid_config.specs.Laws.{IsConfiguredBy}
@@ -52,9 +51,3 @@ module _ (columns : ℕ) (texts : List (List (List ℕ))) (sizing : Sizing) wher
     -- why there is none
     abbrev pub IsPictureFault : DrawError → Type 0
     IsPictureFault e = (config : SpannedConfig) × IsConfiguredBy settings config × IsFaultWith config e
-
--- a refusal of the table itself
-abbrev pub IsRefusal : DrawError → Type 0
-IsRefusal (Memory e) = ⊥
-IsRefusal Write = ⊥
-IsRefusal e = ⊤

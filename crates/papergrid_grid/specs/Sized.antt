@@ -5,8 +5,8 @@ use Rattle.papergrid_values.specs.declared.position.Position.{Position}
 use Rattle.papergrid_config.specs.declared.spanned.SpannedConfig.{SpannedConfig}
 use Rattle.papergrid_text.specs.HeldRows.{column_count, row_count, rows_held}
 use Rattle.papergrid_text.specs.declared.vec_records.VecRecords.{VecRecords}
-use Rattle.papergrid_layout.specs.Tables.{IsTotalTooLarge, TableParts, view_of}
-use Rattle.papergrid_draw.specs.Drawings.{Drawing, drawn_of}
+use Rattle.papergrid_layout.specs.Tables.{IsTotalTooLarge, TableParts}
+use Rattle.papergrid_draw.specs.Drawings.{Drawing, drawn_of, layout_of}
 use Rattle.papergrid_draw.specs.Faults.{IsDrawFault}
 use Rattle.papergrid_draw.specs.declared.error.DrawError.{DrawError}
 use Rattle.papergrid_draw.specs.declared.error.DrawError.TheVariants.{Memory, NoRoom, NotTiled, OutOfTable, TooLarge, Write}
@@ -37,8 +37,8 @@ abbrev pub drawing_of_rows : {C : Type 0} → (C → List (List ℕ × ℕ)) →
 drawing_of_rows lines parts rows color = drawn_of (lines_at lines) (λ _. color) parts rows
 
 -- why a table with sizes of one's own is not drawn: a total without margins is too large, or as any table
-abbrev pub IsGridFault : TableParts → Drawing → DrawError → Type 0
-IsGridFault parts d e = ((e ≡ TooLarge) × IsTotalTooLarge (view_of parts)) ⊎ IsDrawFault d e
+abbrev pub IsGridFault : Drawing → DrawError → Type 0
+IsGridFault d e = ((e ≡ TooLarge) × IsTotalTooLarge (layout_of d)) ⊎ IsDrawFault d e
 
 -- P, unless an allocation failed
 abbrev pub UnlessMemoryFails : DrawError → Type 0 → Type 0

@@ -1,16 +1,16 @@
 //! The printer of tables whose cells are all alike, of the first line of each text. Source: `grid/compact.rs`. Each call
 //! takes an allocator first, for the rows that it holds, for some numbers of each row and column and for a line.
 
-ghost use Rattle.std.specs.Prelude.{◌≡◌, ◌≢◌, ◌⊎◌, ℕ, ⊤, IfErr, IfOk, IsErrOf, OnErr, OnOk, false, string_bytes, take, true};
+ghost use Rattle.std.specs.Prelude.{◌≡◌, ◌≢◌, ◌⊎◌, ⊤, IfErr, IfOk, OnOk, string_bytes};
 ghost use Rattle.std.specs.Fmt.{WritesInCalls};
-ghost use Rattle.std.specs.Io.KnownBytes.{Appends};
 ghost use Rattle.papergrid_draw.specs.Deliveries.{IsLeftOff};
 ghost use Rattle.papergrid_draw.specs.Drawings.{Drawing};
 ghost use Rattle.papergrid_draw.specs.Margins.{printed};
+ghost use Rattle.papergrid_draw.specs.Sinks.{IsCutOff, IsTaken};
 ghost use Rattle.papergrid_draw.specs.declared.error.DrawError.TheVariants.{Memory, Write};
-ghost use Rattle.papergrid_grid.specs.Compact.{IsCompactDrawing, IsCompactFault};
+ghost use Rattle.papergrid_grid.specs.Compact.{IsCompactDrawing};
 ghost use Rattle.papergrid_layout.specs.Tables.{HasSizes};
-ghost use Rattle.papergrid_grid.specs.Sized.{UnlessMemoryFails, texts_at};
+ghost use Rattle.papergrid_grid.specs.Sized.{IsGridFault, UnlessMemoryFails, texts_at};
 
 use crate::color::AsANSIStr;
 use crate::equal_rows::{EqualRows, LineCells, compact_table};
@@ -111,7 +111,7 @@ where
             × IsCompactDrawing R.Iter.Cell.text
             (R.tells self.entry.records) (R.columns self.entry.records) self.entry.config
             (D.width_of self.entry.dimension.now)
-            (texts_at C.Color.texts C.color_at self.entry.colors.now) d × IsCompactFault d e)) }
+            (texts_at C.Color.texts C.color_at self.entry.colors.now) d × IsGridFault d e)) }
         ensures left { IfErr result (λ e.
             ((error : AllocError) × (e ≡ Memory error) × (writer.new ≡ writer.old))
             ⊎ ((d : Drawing) × IsCompactDrawing R.Iter.Cell.text
@@ -155,25 +155,19 @@ where
             (R.tells self.entry.records) (R.columns self.entry.records) self.entry.config
             (D.width_of self.entry.dimension.now)
             (texts_at C.Color.texts C.color_at self.entry.colors.now) d
-            × Appends (W.contents sink.old) (W.contents sink.new) (printed d)) }
-        ensures works { OnOk result (W.has_failed sink.new ≡ W.has_failed sink.old) }
-        ensures moves { OnOk result (W.has_stalled sink.new ≡ W.has_stalled sink.old) }
+            × IsTaken W.contents W.has_failed W.has_stalled sink.old (printed d) sink.new) }
         ensures fault { IfErr result (λ e. UnlessMemoryFails e ((d : Drawing)
             × IsCompactDrawing R.Iter.Cell.text
             (R.tells self.entry.records) (R.columns self.entry.records) self.entry.config
             (D.width_of self.entry.dimension.now)
-            (texts_at C.Color.texts C.color_at self.entry.colors.now) d × IsCompactFault d e)) }
-        ensures nothing { IfErr result (λ e. (e ≡ Write)
-            ⊎ ((error : AllocError) × (e ≡ Memory error)) ⊎ (sink.new ≡ sink.old)) }
-        ensures beginning { OnErr result ((sink.new ≡ sink.old) ⊎ ((d : Drawing)
-            × IsCompactDrawing R.Iter.Cell.text
+            (texts_at C.Color.texts C.color_at self.entry.colors.now) d × IsGridFault d e)) }
+        ensures left { IfErr result (λ e.
+            ((error : AllocError) × (e ≡ Memory error) × (sink.new ≡ sink.old))
+            ⊎ ((d : Drawing) × IsCompactDrawing R.Iter.Cell.text
             (R.tells self.entry.records) (R.columns self.entry.records) self.entry.config
             (D.width_of self.entry.dimension.now)
             (texts_at C.Color.texts C.color_at self.entry.colors.now) d
-            × ((n : ℕ) × Appends (W.contents sink.old) (W.contents sink.new)
-            (take n (printed d))))) }
-        ensures write { IsErrOf result DrawError.Write → (W.has_failed sink.new ≡ true)
-            ⊎ (W.has_stalled sink.old ≡ false → W.has_stalled sink.new ≡ true) }
+            × IsCutOff W.contents W.has_failed W.has_stalled sink.old (printed d) sink.new e)) }
     {
         let CompactGrid {
             records,
@@ -215,7 +209,7 @@ where
             × IsCompactDrawing R.Iter.Cell.text
             (R.tells self.entry.records) (R.columns self.entry.records) self.entry.config
             (D.width_of self.entry.dimension.now)
-            (texts_at C.Color.texts C.color_at self.entry.colors.now) d × IsCompactFault d e)) }
+            (texts_at C.Color.texts C.color_at self.entry.colors.now) d × IsGridFault d e)) }
         ensures works { IfErr result (λ e. e ≢ Write) }
     {
         let CompactGrid {

@@ -1,11 +1,11 @@
 //! The printer over records whose cells are texts. Source: `grid/iterable.rs`. Each call takes an allocator first, for
 //! the rows that it holds, for some numbers of each row and column and for a line.
 
-ghost use Rattle.std.specs.Prelude.{◌≡◌, ◌≢◌, ◌⊎◌, ℕ, ⊤, IfErr, IfOk, IsErrOf, List, OnErr, OnOk, false, length, string_bytes, take, true};
+ghost use Rattle.std.specs.Prelude.{◌≡◌, ◌≢◌, ◌⊎◌, ⊤, IfErr, IfOk, List, OnOk, length, string_bytes};
 ghost use Rattle.std.specs.Fmt.{WritesInCalls};
-ghost use Rattle.std.specs.Io.KnownBytes.{Appends};
 ghost use Rattle.papergrid_draw.specs.Deliveries.{IsLeftOff};
 ghost use Rattle.papergrid_draw.specs.Margins.{printed};
+ghost use Rattle.papergrid_draw.specs.Sinks.{IsCutOff, IsTaken};
 ghost use Rattle.papergrid_draw.specs.declared.error.DrawError.TheVariants.{Memory, Write};
 ghost use Rattle.papergrid_grid.specs.Cells.{text_lines};
 ghost use Rattle.papergrid_layout.specs.Tables.{HasSizes};
@@ -98,8 +98,7 @@ where
             let parts = parts_of self.entry.config.now (D.width_of self.entry.dimension.now)
             (D.height_of self.entry.dimension.now)
             (length cells, R.columns self.entry.records) in
-            IsGridFault parts
-            (drawing_of_rows (λ cell. text_lines (R.Iter.Cell.text cell)) parts cells
+            IsGridFault (drawing_of_rows (λ cell. text_lines (R.Iter.Cell.text cell)) parts cells
             (texts_at C.Color.texts C.color_at self.entry.colors.now)) e))) }
         ensures left { IfErr result (λ e.
             ((error : AllocError) × (e ≡ Memory error) × (writer.new ≡ writer.old))
@@ -145,31 +144,25 @@ where
             let parts = parts_of self.entry.config.now (D.width_of self.entry.dimension.now)
             (D.height_of self.entry.dimension.now)
             (length cells, R.columns self.entry.records) in
-            Appends (W.contents sink.old) (W.contents sink.new)
+            IsTaken W.contents W.has_failed W.has_stalled sink.old
             (printed (drawing_of_rows (λ cell. text_lines (R.Iter.Cell.text cell)) parts cells
-            (texts_at C.Color.texts C.color_at self.entry.colors.now))))) }
-        ensures works { OnOk result (W.has_failed sink.new ≡ W.has_failed sink.old) }
-        ensures moves { OnOk result (W.has_stalled sink.new ≡ W.has_stalled sink.old) }
+            (texts_at C.Color.texts C.color_at self.entry.colors.now))) sink.new)) }
         ensures fault { IfErr result (λ e. UnlessMemoryFails e
             (TellsRows R.tells self.entry.records (λ cells.
             let parts = parts_of self.entry.config.now (D.width_of self.entry.dimension.now)
             (D.height_of self.entry.dimension.now)
             (length cells, R.columns self.entry.records) in
-            IsGridFault parts
-            (drawing_of_rows (λ cell. text_lines (R.Iter.Cell.text cell)) parts cells
+            IsGridFault (drawing_of_rows (λ cell. text_lines (R.Iter.Cell.text cell)) parts cells
             (texts_at C.Color.texts C.color_at self.entry.colors.now)) e))) }
-        ensures nothing { IfErr result (λ e. (e ≡ Write)
-            ⊎ ((error : AllocError) × (e ≡ Memory error)) ⊎ (sink.new ≡ sink.old)) }
-        ensures beginning { OnErr result ((sink.new ≡ sink.old)
+        ensures left { IfErr result (λ e.
+            ((error : AllocError) × (e ≡ Memory error) × (sink.new ≡ sink.old))
             ⊎ TellsRows R.tells self.entry.records (λ cells.
             let parts = parts_of self.entry.config.now (D.width_of self.entry.dimension.now)
             (D.height_of self.entry.dimension.now)
             (length cells, R.columns self.entry.records) in
-            (n : ℕ) × Appends (W.contents sink.old) (W.contents sink.new)
-            (take n (printed (drawing_of_rows (λ cell. text_lines (R.Iter.Cell.text cell))
-            parts cells (texts_at C.Color.texts C.color_at self.entry.colors.now)))))) }
-        ensures write { IsErrOf result DrawError.Write → (W.has_failed sink.new ≡ true)
-            ⊎ (W.has_stalled sink.old ≡ false → W.has_stalled sink.new ≡ true) }
+            IsCutOff W.contents W.has_failed W.has_stalled sink.old
+            (printed (drawing_of_rows (λ cell. text_lines (R.Iter.Cell.text cell)) parts cells
+            (texts_at C.Color.texts C.color_at self.entry.colors.now))) sink.new e)) }
     {
         let IterGrid {
             records,
@@ -213,8 +206,7 @@ where
             let parts = parts_of self.entry.config.now (D.width_of self.entry.dimension.now)
             (D.height_of self.entry.dimension.now)
             (length cells, R.columns self.entry.records) in
-            IsGridFault parts
-            (drawing_of_rows (λ cell. text_lines (R.Iter.Cell.text cell)) parts cells
+            IsGridFault (drawing_of_rows (λ cell. text_lines (R.Iter.Cell.text cell)) parts cells
             (texts_at C.Color.texts C.color_at self.entry.colors.now)) e))) }
         ensures works { IfErr result (λ e. e ≢ Write) }
     {

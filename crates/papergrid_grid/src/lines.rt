@@ -1,10 +1,9 @@
 //! The picture as a text of lines.
 
-ghost use Rattle.std.specs.Prelude.{◌≡◌, ◌≢◌, ◌+◌, ◌⊎◌, ◌↔◌, ℕ, IfErr, IsErrOf, IsTrue, OnErr, OnOk, false, take, true};
-ghost use Rattle.std.specs.Io.KnownBytes.{Appends};
+ghost use Rattle.std.specs.Prelude.{◌≡◌, ◌≢◌, ◌+◌, ◌↔◌, IfErr, IsTrue, OnOk};
 ghost use Rattle.papergrid_draw.specs.Drawings.{Drawing, drawn_of, layout_of};
 ghost use Rattle.papergrid_draw.specs.Faults.{AllHaveRoom, IsDrawFault, whole_height};
-ghost use Rattle.papergrid_draw.specs.declared.error.DrawError.TheVariants.{Memory, Write};
+ghost use Rattle.papergrid_draw.specs.Sinks.{IsCutOff, IsTaken};
 ghost use Rattle.papergrid_layout.specs.Tables.{view_of};
 ghost use Rattle.papergrid_grid.specs.Lined.{lined};
 
@@ -13,7 +12,7 @@ use papergrid_draw::source::Cells;
 use papergrid_draw::transfer::{Sink, write_all};
 use papergrid_draw::{DrawError, Room};
 use papergrid_layout::Table;
-use std::alloc::{AllocError, Global};
+use std::alloc::Global;
 
 /// Whether there is a line: there are rows and columns, and they or the margins have any height.
 fn is_any(rows: usize, columns: usize, height: usize, beside: (usize, usize)) -> bool
@@ -55,21 +54,11 @@ pub fn draw_lines<'a, S: Cells, W: Sink>(
 where
     S::Cell: Drop,
     requires { room ≡ Room.Known → AllHaveRoom (drawn_of S.lines S.color table.now cells.now) }
-    ensures picture { OnOk result (Appends (W.contents sink.old) (W.contents sink.new)
-        (lined (drawn_of S.lines S.color table.now cells.now))) }
-    ensures works { OnOk result (W.has_failed sink.new ≡ W.has_failed sink.old) }
-    ensures moves { OnOk result (W.has_stalled sink.new ≡ W.has_stalled sink.old) }
+    ensures picture { OnOk result (IsTaken W.contents W.has_failed W.has_stalled sink.old
+        (lined (drawn_of S.lines S.color table.now cells.now)) sink.new) }
     ensures fault { IfErr result (IsDrawFault (drawn_of S.lines S.color table.now cells.now)) }
-    ensures nothing { IfErr result (λ e. (e ≡ Write) ⊎ ((error : AllocError) × (e ≡ Memory error))
-        ⊎ (sink.new ≡ sink.old)) }
-    ensures beginning { OnErr result ((n : ℕ)
-        × Appends (W.contents sink.old) (W.contents sink.new)
-        (take n (lined (drawn_of S.lines S.color table.now cells.now)))) }
-    ensures write { IsErrOf result DrawError.Write → (W.has_failed sink.new ≡ true)
-        ⊎ (W.has_stalled sink.old ≡ false → W.has_stalled sink.new ≡ true) }
-    ensures steady { IfErr result (λ e. (e ≡ Write)
-        ⊎ ((W.has_failed sink.new ≡ W.has_failed sink.old)
-        × (W.has_stalled sink.new ≡ W.has_stalled sink.old))) }
+    ensures left { IfErr result (IsCutOff W.contents W.has_failed W.has_stalled sink.old
+        (lined (drawn_of S.lines S.color table.now cells.now)) sink.new) }
 {
     draw_cells(alloc, table, cells, room, sink)?;
     if !has_lines(table) {

@@ -1,13 +1,13 @@
 //! The printer over records whose cells know their lines and widths. Source: `grid/peekable.rs`. Each call takes an
 //! allocator first, for some numbers of each row and column and for a line.
 
-ghost use Rattle.std.specs.Prelude.{◌≡◌, ◌≢◌, ◌⊎◌, ℕ, ⊤, IfErr, IfOk, IsErrOf, OnErr, OnOk, false, string_bytes, take, true};
+ghost use Rattle.std.specs.Prelude.{◌≡◌, ◌≢◌, ⊤, IfErr, IfOk, OnOk, string_bytes};
 ghost use Rattle.std.specs.Fmt.{WritesInCalls};
-ghost use Rattle.std.specs.Io.KnownBytes.{Appends};
 ghost use Rattle.papergrid_text.specs.HeldRows.{rows_held};
 ghost use Rattle.papergrid_draw.specs.Deliveries.{IsLeftOff};
 ghost use Rattle.papergrid_draw.specs.Margins.{printed};
-ghost use Rattle.papergrid_draw.specs.declared.error.DrawError.TheVariants.{Memory, Write};
+ghost use Rattle.papergrid_draw.specs.Sinks.{IsCutOff, IsTaken};
+ghost use Rattle.papergrid_draw.specs.declared.error.DrawError.TheVariants.{Write};
 ghost use Rattle.papergrid_layout.specs.Tables.{HasSizes};
 ghost use Rattle.papergrid_grid.specs.Sized.{IsGridFault, cells_held, drawing_of_rows, parts_of, shape_told, texts_at};
 
@@ -20,7 +20,7 @@ use papergrid_draw::transfer::Sink;
 use papergrid_layout::Dimension;
 use papergrid_text::{Cell, ExactRecords, Records, VecRecords};
 use papergrid_values::Colors;
-use std::alloc::{AllocError, Global};
+use std::alloc::Global;
 use std::fmt;
 
 /// A table of records whose cells know their lines and widths. It has the numbers of rows and columns that the
@@ -110,7 +110,7 @@ where
         ensures fault { let parts = parts_of self.now.config.now
             (D.width_of self.now.dimension.now) (D.height_of self.now.dimension.now)
             (shape_told self.now.records.now) in
-            IfErr result (IsGridFault parts
+            IfErr result (IsGridFault
             (drawing_of_rows T.lines parts (cells_held self.now.records.now)
             (texts_at C.Color.texts C.color_at self.now.colors.now))) }
         ensures left { let parts = parts_of self.now.config.now
@@ -145,27 +145,21 @@ where
         ensures picture { let parts = parts_of self.now.config.now
             (D.width_of self.now.dimension.now) (D.height_of self.now.dimension.now)
             (shape_told self.now.records.now) in
-            OnOk result (Appends (W.contents sink.old) (W.contents sink.new)
+            OnOk result (IsTaken W.contents W.has_failed W.has_stalled sink.old
             (printed (drawing_of_rows T.lines parts (cells_held self.now.records.now)
-            (texts_at C.Color.texts C.color_at self.now.colors.now)))) }
-        ensures works { OnOk result (W.has_failed sink.new ≡ W.has_failed sink.old) }
-        ensures moves { OnOk result (W.has_stalled sink.new ≡ W.has_stalled sink.old) }
+            (texts_at C.Color.texts C.color_at self.now.colors.now))) sink.new) }
         ensures fault { let parts = parts_of self.now.config.now
             (D.width_of self.now.dimension.now) (D.height_of self.now.dimension.now)
             (shape_told self.now.records.now) in
-            IfErr result (IsGridFault parts
+            IfErr result (IsGridFault
             (drawing_of_rows T.lines parts (cells_held self.now.records.now)
             (texts_at C.Color.texts C.color_at self.now.colors.now))) }
-        ensures nothing { IfErr result (λ e. (e ≡ Write)
-            ⊎ ((error : AllocError) × (e ≡ Memory error)) ⊎ (sink.new ≡ sink.old)) }
-        ensures beginning { let parts = parts_of self.now.config.now
+        ensures left { let parts = parts_of self.now.config.now
             (D.width_of self.now.dimension.now) (D.height_of self.now.dimension.now)
             (shape_told self.now.records.now) in
-            OnErr result ((n : ℕ) × Appends (W.contents sink.old) (W.contents sink.new)
-            (take n (printed (drawing_of_rows T.lines parts (cells_held self.now.records.now)
-            (texts_at C.Color.texts C.color_at self.now.colors.now))))) }
-        ensures write { IsErrOf result DrawError.Write → (W.has_failed sink.new ≡ true)
-            ⊎ (W.has_stalled sink.old ≡ false → W.has_stalled sink.new ≡ true) }
+            IfErr result (IsCutOff W.contents W.has_failed W.has_stalled sink.old
+            (printed (drawing_of_rows T.lines parts (cells_held self.now.records.now)
+            (texts_at C.Color.texts C.color_at self.now.colors.now))) sink.new) }
     {
         write_sized(
             alloc,
@@ -198,7 +192,7 @@ where
         ensures fault { let parts = parts_of self.now.config.now
             (D.width_of self.now.dimension.now) (D.height_of self.now.dimension.now)
             (shape_told self.now.records.now) in
-            IfErr result (IsGridFault parts
+            IfErr result (IsGridFault
             (drawing_of_rows T.lines parts (cells_held self.now.records.now)
             (texts_at C.Color.texts C.color_at self.now.colors.now))) }
         ensures works { IfErr result (λ e. e ≢ Write) }

@@ -1,12 +1,12 @@
 //! The printers of a table whose sizes a dimension has.
 
-ghost use Rattle.std.specs.Prelude.{◌≡◌, ◌≢◌, ◌⊎◌, ℕ, ⊤, IfErr, IfOk, IsErrOf, OnErr, OnOk, false, string_bytes, take, true};
+ghost use Rattle.std.specs.Prelude.{◌≡◌, ◌≢◌, ⊤, IfErr, IfOk, OnOk, string_bytes};
 ghost use Rattle.std.specs.Fmt.{WritesInCalls};
-ghost use Rattle.std.specs.Io.KnownBytes.{Appends};
 ghost use Rattle.papergrid_draw.specs.Deliveries.{IsLeftOff};
 ghost use Rattle.papergrid_draw.specs.Drawings.{drawn_of};
 ghost use Rattle.papergrid_draw.specs.Margins.{printed};
-ghost use Rattle.papergrid_draw.specs.declared.error.DrawError.TheVariants.{Memory, Write};
+ghost use Rattle.papergrid_draw.specs.Sinks.{IsCutOff, IsTaken};
+ghost use Rattle.papergrid_draw.specs.declared.error.DrawError.TheVariants.{Write};
 ghost use Rattle.papergrid_layout.specs.Tables.{HasSizes};
 ghost use Rattle.papergrid_grid.specs.Sized.{IsGridFault, parts_of};
 
@@ -17,7 +17,7 @@ use papergrid_draw::source::Cells;
 use papergrid_draw::transfer::Sink;
 use papergrid_draw::{DrawError, Room};
 use papergrid_layout::Dimension;
-use std::alloc::{AllocError, Global};
+use std::alloc::Global;
 use std::fmt;
 
 /// Writes the picture of so many rows and columns to a sink.
@@ -35,21 +35,15 @@ where
     requires columns { HasSizes (D.has_column dimension.now) shape.1 }
     ensures picture { let parts = parts_of config.now (D.width_of dimension.now)
         (D.height_of dimension.now) shape in
-        OnOk result (Appends (W.contents sink.old) (W.contents sink.new)
-        (printed (drawn_of S.lines S.color parts cells.now))) }
-    ensures works { OnOk result (W.has_failed sink.new ≡ W.has_failed sink.old) }
-    ensures moves { OnOk result (W.has_stalled sink.new ≡ W.has_stalled sink.old) }
+        OnOk result (IsTaken W.contents W.has_failed W.has_stalled sink.old
+        (printed (drawn_of S.lines S.color parts cells.now)) sink.new) }
     ensures fault { let parts = parts_of config.now (D.width_of dimension.now)
         (D.height_of dimension.now) shape in
-        IfErr result (IsGridFault parts (drawn_of S.lines S.color parts cells.now)) }
-    ensures nothing { IfErr result (λ e. (e ≡ Write) ⊎ ((error : AllocError) × (e ≡ Memory error))
-        ⊎ (sink.new ≡ sink.old)) }
-    ensures beginning { let parts = parts_of config.now (D.width_of dimension.now)
+        IfErr result (IsGridFault (drawn_of S.lines S.color parts cells.now)) }
+    ensures left { let parts = parts_of config.now (D.width_of dimension.now)
         (D.height_of dimension.now) shape in
-        OnErr result ((n : ℕ) × Appends (W.contents sink.old) (W.contents sink.new)
-        (take n (printed (drawn_of S.lines S.color parts cells.now)))) }
-    ensures write { IsErrOf result DrawError.Write → (W.has_failed sink.new ≡ true)
-        ⊎ (W.has_stalled sink.old ≡ false → W.has_stalled sink.new ≡ true) }
+        IfErr result (IsCutOff W.contents W.has_failed W.has_stalled sink.old
+        (printed (drawn_of S.lines S.color parts cells.now)) sink.new) }
 {
     let table = sized_table(alloc, config, dimension, shape)?;
     draw_cells(alloc, &table, cells, Room::Unknown, sink)
@@ -74,7 +68,7 @@ where
         (printed (drawn_of S.lines S.color parts cells.now)) writer.new) }
     ensures fault { let parts = parts_of config.now (D.width_of dimension.now)
         (D.height_of dimension.now) shape in
-        IfErr result (IsGridFault parts (drawn_of S.lines S.color parts cells.now)) }
+        IfErr result (IsGridFault (drawn_of S.lines S.color parts cells.now)) }
     ensures left { let parts = parts_of config.now (D.width_of dimension.now)
         (D.height_of dimension.now) shape in
         IfErr result (IsLeftOff F.write_str_gives (λ _ _ _. ⊤) writer.old
@@ -102,7 +96,7 @@ where
         ≡ printed (drawn_of S.lines S.color parts cells.now)) }
     ensures fault { let parts = parts_of config.now (D.width_of dimension.now)
         (D.height_of dimension.now) shape in
-        IfErr result (IsGridFault parts (drawn_of S.lines S.color parts cells.now)) }
+        IfErr result (IsGridFault (drawn_of S.lines S.color parts cells.now)) }
     ensures works { IfErr result (λ e. e ≢ Write) }
 {
     let table = sized_table(alloc, config, dimension, shape)?;

@@ -1,9 +1,7 @@
 -- The table of a document, and what is drawn with it.
-use Rattle.std.proofs.Common.{Global, String, Vec, ◌≡◌, ◌∙◌, ◌⊎◌, ℕ, Bool, List, Option, None, Some, Result, Ok, Err, OnErr, OnOk, IfErr, map, ap, inl, inr, refl, subst, sym, take}
-use Rattle.std.specs.Io.KnownBytes.{Appends}
-use Rattle.std.specs.Prelude.{IsErrOf, length, option_map, slice_index, string_bytes}
+use Rattle.std.proofs.Common.{Global, String, Vec, ◌≡◌, ◌∙◌, ℕ, List, Option, None, Some, Result, Ok, Err, map, ap, refl, subst, sym}
+use Rattle.std.specs.Prelude.{length, option_map, slice_index, string_bytes}
 use Rattle.std.specs.BTreeMap.{get}
-use Rattle.std.specs.declared.alloc.AllocError.{AllocError}
 use Rattle.papergrid_values.specs.MapKeys.{position_cmp}
 use Rattle.papergrid_config.specs.declared.spanned.SpannedConfig.{SpannedConfig}
 use Rattle.papergrid_layout.specs.Answers.{UnlessMemory, UnlessMemoryError}
@@ -13,20 +11,16 @@ use Rattle.papergrid_tracks.specs.declared.error.LayoutError.{LayoutError}
 use Rattle.papergrid_tracks.specs.declared.error.LayoutError.TheVariants as layout_errors
 use Rattle.papergrid_draw.specs.Drawings.{Drawing}
 use Rattle.papergrid_draw.specs.Errors.{draw_error_of}
-use Rattle.papergrid_draw.specs.Faults.{AllHaveRoom, IsDrawFault}
+use Rattle.papergrid_draw.specs.Faults.{AllHaveRoom}
 use Rattle.papergrid_draw.specs.declared.error.DrawError.{DrawError}
 use Rattle.papergrid_draw.specs.declared.error.DrawError.TheVariants as draw_errors
 use Rattle.papergrid_grid.specs.Cells.{lines_at, text_lines}
-use Rattle.papergrid_grid.specs.Lined.{lined}
 use Rattle.papergrid_text.proofs.RowSteps.{told_by}
 use Rattle.papergrid_walk.specs.Measures.{text_measure}
 use Rattle.papergrid_config.specs.Laws.{IsConfiguredBy}
-use Rattle.papergrid_grid.specs.Pictures.{IsRefusal}
-use Rattle.papergrid_grid.specs.ForProofs.Drawn.{IsSteady}
-use Rattle.papergrid_draw.specs.ForProofs.Sinks.{HasEnded}
-use Rattle.papergrid_grid.proofs.PictureLemmas.{no-sizes-seen, room-in, same-writer, sizes-seen}
-use Rattle.papergrid_json.specs.Pictures.{AreNoSizesOf, AreSizesOf, IsDocumentDrawing, IsDocumentFault, IsDocumentTable, IsDocumentDrawingWith, IsDocumentFaultWith, Undrawn, Unsized, document_texts}
-use Rattle.papergrid_json.specs.ForProofs.Drawn.{DrawsLines, AreLinesUndrawn}
+use Rattle.papergrid_draw.specs.Sinks.{IsRefusal}
+use Rattle.papergrid_grid.proofs.PictureLemmas.{no-sizes-seen, room-in, sizes-seen}
+use Rattle.papergrid_json.specs.Pictures.{AreNoSizesOf, AreSizesOf, IsDocumentDrawing, IsDocumentFault, IsDocumentTable, IsDocumentDrawingWith, IsDocumentFaultWith, Unsized, document_texts}
 use Rattle.papergrid_json.specs.declared.document.Document.{Document}
 use Rattle.papergrid_json.specs.declared.document.OwnSizes.{OwnSizes}
 
@@ -115,86 +109,16 @@ module _ (document : Document) (sizing : Sizing) (config : SpannedConfig) where
       room-in parts.config document.columns (map (λ row. map string_bytes row.items) rows) sizing parts.widths parts.heights _
       (subst (λ held. AreSizesBySizing parts.config text_measure document.columns (map (λ row. map string_bytes row.items) held) sizing parts.widths parts.heights) (sym same) by_parts)
 
-  -- what is known of a call that draws it
-  module _ {W : Type 0} (contents : W → Option (List ℕ)) (has_failed has_stalled : W → Bool) where
-    abbrev IsSoUndrawn : W → W → DrawError → Type 0
-    IsSoUndrawn old new e = AreLinesUndrawn contents has_failed has_stalled (IsDocumentDrawingWith document sizing config) (IsDocumentFaultWith document sizing config) old new e
+  -- why there are no sizes is why there is no picture
+  pub unsized : (e : LayoutError) → UnlessMemoryError e (AreNoSizesOf document sizing config document.sizes e) → IsRefusal (draw_error_of e) → IsDocumentFaultWith document sizing config (draw_error_of e)
+  unsized (layout_errors.OutOfTable p) are is = Unsized (layout_errors.OutOfTable p) refl are
+  unsized layout_errors.TooLarge are is = Unsized layout_errors.TooLarge refl are
+  unsized (layout_errors.Memory e) are is = absurd is
 
-    -- there are no sizes
-    pub unsized : (w : W) (e : LayoutError) → UnlessMemoryError e (AreNoSizesOf document sizing config document.sizes e) → IsSoUndrawn w w (draw_error_of e)
-    unsized w e are = record {
-      fault = named e are;
-      nothing = λ _. refl;
-      beginning = inl refl;
-      write = λ is. absurd (never e is);
-      steady = inr (refl, refl);
-    }
-      where
-        named : (e : LayoutError) → UnlessMemoryError e (AreNoSizesOf document sizing config document.sizes e) → IsRefusal (draw_error_of e) → IsDocumentFaultWith document sizing config (draw_error_of e)
-        named (layout_errors.OutOfTable p) are is = Unsized (layout_errors.OutOfTable p) refl are
-        named layout_errors.TooLarge are is = Unsized layout_errors.TooLarge refl are
-        named (layout_errors.Memory e) are is = absurd is
+  -- by a configuration that the settings tell
+  module _ (told : IsConfiguredBy document.settings.items config) where
+    pub drawn-by-settings : (d : Drawing) → IsDocumentDrawingWith document sizing config d → IsDocumentDrawing document sizing d
+    drawn-by-settings d is = (config, told, is)
 
-        never : (e : LayoutError) → draw_error_of e ≡ draw_errors.Write → ⊥
-        never (layout_errors.OutOfTable p) is = cc
-        never layout_errors.TooLarge is = cc
-        never (layout_errors.Memory e) is = cc
-
-    -- there are, and it was drawn with them, or not
-    pub drawn-so : {A : Type 0} (d : Drawing) → IsDocumentDrawingWith document sizing config d → (old new : W) (result : Result A DrawError) →
-        OnOk result (Appends (contents old) (contents new) (lined d)) → OnOk result (has_failed new ≡ has_failed old) → OnOk result (has_stalled new ≡ has_stalled old) →
-        IfErr result (IsDrawFault d) → IfErr result (λ e. (e ≡ draw_errors.Write) ⊎ ((error : AllocError) × (e ≡ draw_errors.Memory error)) ⊎ (new ≡ old)) →
-        OnErr result ((n : ℕ) × Appends (contents old) (contents new) (take n (lined d))) →
-        (IsErrOf result draw_errors.Write → HasEnded contents has_failed has_stalled old new) →
-        IfErr result (λ e. (e ≡ draw_errors.Write) ⊎ IsSteady contents has_failed has_stalled old new) →
-        DrawsLines contents has_failed has_stalled (IsDocumentDrawingWith document sizing config) (IsDocumentFaultWith document sizing config) old new result
-    drawn-so d is old new (Ok x) taken works moves fault nothing begun write steady = (d, is, record { taken = taken; works = works; moves = moves })
-    drawn-so d is old new (Err e) taken works moves fault nothing begun write steady = record {
-      fault = λ named. Undrawn d is fault;
-      nothing = λ named. same-writer old new e named nothing;
-      beginning = inr (d, is, begun);
-      write = λ same. write (ap Err same);
-      steady = steady;
-    }
-
-    -- by a configuration that the settings tell
-    module _ (told : IsConfiguredBy document.settings.items config) {A : Type 0} (old new : W) where
-      abbrev So : Result A DrawError → Type 0
-      So result = DrawsLines contents has_failed has_stalled (IsDocumentDrawingWith document sizing config) (IsDocumentFaultWith document sizing config) old new result
-
-      pub draw-picture : (result : Result A DrawError) → So result →
-          OnOk result ((d : Drawing) × IsDocumentDrawing document sizing d × Appends (contents old) (contents new) (lined d))
-      draw-picture (Ok x) so = (so.0, (config, told, so.1), so.2.taken)
-      draw-picture (Err e) so = tt
-
-      pub draw-works : (result : Result A DrawError) → So result → OnOk result (has_failed new ≡ has_failed old)
-      draw-works (Ok x) so = so.2.works
-      draw-works (Err e) so = tt
-
-      pub draw-moves : (result : Result A DrawError) → So result → OnOk result (has_stalled new ≡ has_stalled old)
-      draw-moves (Ok x) so = so.2.moves
-      draw-moves (Err e) so = tt
-
-      pub draw-fault : (result : Result A DrawError) → So result → IfErr result (λ e. IsRefusal e → IsDocumentFault document sizing e)
-      draw-fault (Ok x) so = tt
-      draw-fault (Err e) so = λ named. (config, told, so.fault named)
-
-      pub draw-nothing : (result : Result A DrawError) → So result → IfErr result (λ e. IsRefusal e → new ≡ old)
-      draw-nothing (Ok x) so = tt
-      draw-nothing (Err e) so = so.nothing
-
-      pub draw-beginning : (result : Result A DrawError) → So result →
-          OnErr result ((new ≡ old) ⊎ ((d : Drawing) × IsDocumentDrawing document sizing d × ((n : ℕ) × Appends (contents old) (contents new) (take n (lined d)))))
-      draw-beginning (Ok x) so = tt
-      draw-beginning (Err e) so = elim so.beginning [
-        | inl same ↦ inl same
-        | inr begun ↦ inr (begun.0, (config, told, begun.1), begun.2)
-      ]
-
-      pub draw-write : (result : Result A DrawError) → So result → IsErrOf result draw_errors.Write → HasEnded contents has_failed has_stalled old new
-      draw-write (Ok x) so is = absurd (let none : ⊥ = cc in none)
-      draw-write (Err e) so is = let same : e ≡ draw_errors.Write = cc in so.write same
-
-      pub draw-steady : (result : Result A DrawError) → So result → IfErr result (λ e. (e ≡ draw_errors.Write) ⊎ IsSteady contents has_failed has_stalled old new)
-      draw-steady (Ok x) so = tt
-      draw-steady (Err e) so = so.steady
+    pub fault-by-settings : (e : DrawError) → IsDocumentFaultWith document sizing config e → IsDocumentFault document sizing e
+    fault-by-settings e is = (config, told, is)

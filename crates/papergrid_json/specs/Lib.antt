@@ -1,4 +1,3 @@
 -- Definitions: what is known of a document that was read, and its picture.
 pub mod Documents
 pub mod Pictures
-pub mod ForProofs

@@ -1,17 +1,14 @@
 //! Documents, drawn.
 
-ghost use Rattle.std.specs.Prelude.{◌≡◌, ◌⊎◌, ℕ, IfErr, IfOk, IsErrOf, None, OnErr, OnOk, false, take, true};
-ghost use Rattle.std.specs.Io.KnownBytes.{Appends};
-ghost use Rattle.papergrid_draw.specs.Drawings.{Drawing};
-ghost use Rattle.papergrid_draw.specs.declared.error.DrawError.TheVariants.{Write};
+ghost use Rattle.std.specs.Prelude.{◌≡◌, IfErr, IfOk, None, OnOk};
 ghost use Rattle.papergrid_draw.specs.declared.room.Room.TheVariants.{Known};
+ghost use Rattle.papergrid_draw.specs.Drawings.{Drawing};
+ghost use Rattle.papergrid_draw.specs.Sinks.{IsTaken, IsUndrawn, WritesPicture};
 ghost use Rattle.papergrid_grid.specs.Lined.{lined};
 ghost use Rattle.papergrid_layout.specs.Answers.{UnlessMemory};
 ghost use Rattle.papergrid_config.specs.Laws.{IsConfiguredBy};
-ghost use Rattle.papergrid_grid.specs.Pictures.{IsRefusal};
 ghost use Rattle.papergrid_json.specs.Documents.{AreInRange};
 ghost use Rattle.papergrid_json.specs.Pictures.{IsDocumentDrawing, IsDocumentFault, IsDocumentTable, IsDocumentDrawingWith, IsDocumentFaultWith};
-ghost use Rattle.papergrid_json.specs.ForProofs.Drawn.{DrawsLines};
 
 use crate::document::Document;
 use papergrid_config::laws::history_decides;
@@ -41,20 +38,11 @@ pub fn draw_document<W: Sink>(
 ) -> Result<(), DrawError>
     requires { AreInRange document.now.settings.items }
     ensures picture { OnOk result ((d : Drawing) × IsDocumentDrawing document.now sizing d
-        × Appends (W.contents sink.old) (W.contents sink.new) (lined d)) }
-    ensures works { OnOk result (W.has_failed sink.new ≡ W.has_failed sink.old) }
-    ensures moves { OnOk result (W.has_stalled sink.new ≡ W.has_stalled sink.old) }
-    ensures fault { IfErr result (λ e. IsRefusal e → IsDocumentFault document.now sizing e) }
-    ensures nothing { IfErr result (λ e. IsRefusal e → sink.new ≡ sink.old) }
-    ensures beginning { OnErr result ((sink.new ≡ sink.old)
-        ⊎ ((d : Drawing) × IsDocumentDrawing document.now sizing d × ((n : ℕ)
-        × Appends (W.contents sink.old) (W.contents sink.new) (take n (lined d))))) }
-    ensures write { IsErrOf result DrawError.Write → (W.has_failed sink.new ≡ true)
-        ⊎ (W.has_stalled sink.old ≡ false → W.has_stalled sink.new ≡ true) }
+        × IsTaken W.contents W.has_failed W.has_stalled sink.old (lined d) sink.new) }
     // A failed allocation fails no write.
-    ensures steady { IfErr result (λ e. (e ≡ Write)
-        ⊎ ((W.has_failed sink.new ≡ W.has_failed sink.old)
-        × (W.has_stalled sink.new ≡ W.has_stalled sink.old))) }
+    ensures undrawn { IfErr result (IsUndrawn W.contents W.has_failed W.has_stalled
+        (IsDocumentDrawing document.now sizing) (IsDocumentFault document.now sizing)
+        lined sink.old sink.new) }
 {
     let config = configuration(alloc, &document.settings)?;
     draw_by(alloc, &config, document, sizing, sink)
@@ -86,9 +74,9 @@ fn draw_by<W: Sink>(
     sizing: Sizing,
     sink: &mut W,
 ) -> Result<(), DrawError>
-    ensures { DrawsLines W.contents W.has_failed W.has_stalled
+    ensures { WritesPicture W.contents W.has_failed W.has_stalled
         (IsDocumentDrawingWith document.now sizing config.now)
-        (IsDocumentFaultWith document.now sizing config.now) sink.old sink.new result }
+        (IsDocumentFaultWith document.now sizing config.now) lined sink.old sink.new result }
 {
     let table = document_table(alloc, config, document, sizing)?;
     let cells = TextCells {

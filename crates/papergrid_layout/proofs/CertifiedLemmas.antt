@@ -1,5 +1,5 @@
 -- Sizes and their certificates, by what the solvers find.
-use Rattle.std.proofs.Common.{ℕ, Bool, List}
+use Rattle.std.proofs.Common.{ℕ, Bool, true, List, refl}
 use Rattle.std.specs.Prelude.{None, Option, Some, Result, Ok, Err, Vec}
 use Rattle.std.specs.declared.alloc.Global.{Global}
 use Rattle.papergrid_values.specs.declared.per_direction.PerDirection.{PerDirection}
@@ -17,9 +17,10 @@ use Rattle.papergrid_tracks.specs.Problem.{Problem}
 use Rattle.papergrid_tracks.proofs.AnswerLemmas.{IsCriticalPath-in_order}
 use Rattle.papergrid_walk.specs.Cells.{problem_of}
 use Rattle.papergrid_walk.proofs.Distinct.{in_order-demands}
-use Rattle.papergrid_layout.specs.Answers.{AnswersBothWhere, UnlessMemory}
-use Rattle.papergrid_layout.specs.Certificates.{IsCertificateBy, places_of}
+use Rattle.papergrid_layout.specs.Answers.{AnswersBothWhere, AreTooLargeBy, UnlessMemory}
+use Rattle.papergrid_layout.specs.Certificates.{IsCertificateBy, IsCertifiedBy, places_of}
 use Rattle.papergrid_layout.specs.ForProofs.Solved.{IsSolvedWith}
+use Rattle.papergrid_layout.specs.declared.sizing.Sizing.{Sizing}
 use Rattle.papergrid_layout.specs.declared.sizing.Sizing.TheVariants.{ByShares, Least}
 
 by_shares : (problem : Problem) (found : Option (Vec Position Global)) → IsCertificateOrNone problem found → IsCertificateBy ByShares problem (places_of found)
@@ -68,3 +69,9 @@ module _ {C : Type 0} (grid : Grid) (measure : C → ℕ × ℕ) (columns : ℕ)
               (IsCriticalPath-in_order (along cells direction) solved.certificate (in_order-demands direction grid measure cells) (is.asked asked));
           unasked = is.unasked;
         })
+
+  -- with the certificates that were asked for
+  pub certified : (sizing : Sizing) (result : Result (PerDirection Solved) LayoutError) → Told (AreTooLargeBy sizing) (IsSolvedWith sizing true) result →
+      Told (AreTooLargeBy sizing) (IsCertifiedBy sizing) result
+  certified sizing = told-also (AreTooLargeBy sizing) _ _
+      (λ cells direction solved is. record { sizes = is.sizes; total = is.total; certificate = is.asked refl })

@@ -1,20 +1,18 @@
 -- What certificates and checkers say of the rows told.
-use Rattle.std.specs.Prelude.{◌↔◌, ℕ, Bool, IsTrue, if◌then◌else◌, List, map, Option, Some, None, option_map, Result, Ok, Err, Vec}
+use Rattle.std.specs.Prelude.{◌≡◌, ◌↔◌, ℕ, Bool, IsTrue, if◌then◌else◌, List, map, Option, Some, None, option_map, Vec}
 use Rattle.std.specs.declared.alloc.Global.{Global}
 use Rattle.papergrid_values.specs.declared.position.Position.{Position}
-use Rattle.papergrid_values.specs.declared.direction.Direction.TheVariants.{Columns, Rows}
-use Rattle.papergrid_tracks.specs.declared.error.LayoutError.{LayoutError}
+use Rattle.papergrid_values.specs.declared.per_direction.PerDirection.{PerDirection}
+use Rattle.papergrid_tracks.specs.declared.solution.Solved.{Solved}
 use Rattle.papergrid_tracks.specs.Answers.{AreCertifying, IsAccepted, NoneCertify}
 use Rattle.papergrid_tracks.specs.Certificates.{certificate_cells_of}
 use Rattle.papergrid_tracks.specs.Fits.{IsLeast}
 use Rattle.papergrid_tracks.specs.Laminar.{is_laminar}
-use Rattle.papergrid_tracks.specs.Problem.{Problem}
+use Rattle.papergrid_tracks.specs.Problem.{Problem, total_of}
 use Rattle.papergrid_tracks.specs.Ranges.{place_of}
 use Rattle.papergrid_tracks.specs.LeastAnswers.{AreCriticalPath}
-use Rattle.papergrid_walk.specs.Cells.{problem_of}
 use Rattle.papergrid_maps.specs.Grids.{Grid}
-use Rattle.papergrid_layout.specs.Answers.{AreSizesBy, AreTooLargeBy, HoldAlong, IsBothRefusedWhere}
-use Rattle.papergrid_layout.specs.declared.certificates.Certified.{Certified}
+use Rattle.papergrid_layout.specs.Answers.{AreSizesBy, HoldAlong}
 use Rattle.papergrid_layout.specs.declared.sizing.Sizing.{Sizing}
 use Rattle.papergrid_layout.specs.declared.sizing.Sizing.TheVariants.{ByShares, Least}
 
@@ -39,14 +37,31 @@ IsCertificateBy ByShares problem (Some places) = AreCertifying problem places
 IsCertificateBy Least problem None = ⊥
 IsCertificateBy Least problem (Some places) = AreCriticalPath problem places
 
-module _ {C : Type 0} (grid : Grid) (measure : C → ℕ × ℕ) (columns : ℕ) (cells : List (List C)) (sizing : Sizing) where
-  -- exactly the sizes that are chosen so, with what holds of them, and what certifies them
-  pub record AreCertified (widths heights : List ℕ) (width_witness height_witness : Option (List Position)) : Type 0 where
-    pub sizes : HoldAlong grid measure columns cells (AreSizesBy sizing) widths heights
-    pub certifies_widths : IsCertificateBy sizing (problem_of grid measure columns cells Columns) width_witness
-    pub certifies_heights : IsCertificateBy sizing (problem_of grid measure columns cells Rows) height_witness
+-- what is found along a direction: the sizes, their total with all lines, and the positions of the cells that certify
+-- them, if there are such
+pub record Solution : Type 0 where
+  pub sizes : List ℕ
+  pub total : ℕ
+  pub certificate : Option (List Position)
 
-  -- the same of what is found, or why nothing is
-  abbrev pub IsCertifiedBy : Result Certified LayoutError → Type 0
-  IsCertifiedBy (Ok certified) = AreCertified certified.widths.items certified.heights.items (places_of certified.width_witness) (places_of certified.height_witness)
-  IsCertifiedBy (Err e) = IsBothRefusedWhere grid measure columns cells (AreTooLargeBy sizing) e
+-- what a solver has found
+abbrev pub solution_of : Solved → Solution
+solution_of solved = record { sizes = solved.sizes.items; total = solved.total; certificate = places_of solved.certificate }
+
+-- the same along both directions
+abbrev pub solutions_of : PerDirection Solved → PerDirection Solution
+solutions_of found = record { columns = solution_of found.columns; rows = solution_of found.rows }
+
+-- exactly the sizes that are chosen so, with what holds of them, their total with all lines, and what certifies them
+pub record IsSolutionBy (sizing : Sizing) (problem : Problem) (solution : Solution) : Type 0 where
+  pub sizes : AreSizesBy sizing problem solution.sizes
+  pub total : solution.total ≡ total_of problem solution.sizes
+  pub certificate : IsCertificateBy sizing problem solution.certificate
+
+-- the same of what a solver has found
+abbrev pub IsCertifiedBy : Sizing → Problem → Solved → Type 0
+IsCertifiedBy sizing problem solved = IsSolutionBy sizing problem (solution_of solved)
+
+-- the same along both directions, of rows of cells that are measured so
+abbrev pub AreSolutionsBy : {C : Type 0} → Grid → (C → ℕ × ℕ) → ℕ → List (List C) → Sizing → PerDirection Solution → Type 0
+AreSolutionsBy grid measure columns cells sizing found = HoldAlong grid measure columns cells (IsSolutionBy sizing) found.columns found.rows

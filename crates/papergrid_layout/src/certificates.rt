@@ -7,7 +7,7 @@ ghost use Rattle.papergrid_tracks.specs.LeastAnswers.{IsLeastCertified};
 ghost use Rattle.papergrid_walk.specs.Cells.{problem_of};
 ghost use Rattle.papergrid_config.specs.Grids.{spanned_grid};
 ghost use Rattle.papergrid_walk.specs.Measures.{line_measure};
-ghost use Rattle.papergrid_layout.specs.Answers.{UnlessMemory};
+ghost use Rattle.papergrid_layout.specs.Answers.{AnswersBothWhere, AreTooLargeBy, UnlessMemory};
 ghost use Rattle.papergrid_layout.specs.Certificates.{IsCertifiedBy, IsChecked};
 ghost use Rattle.papergrid_text.specs.Records.{TellsRows};
 
@@ -17,7 +17,7 @@ use crate::check::check;
 use crate::sizing::Sizing;
 use papergrid_config::SpannedConfig;
 use papergrid_text::{IntoRecords, Records};
-use papergrid_tracks::{ByLeastTotal, ByShares, LayoutError};
+use papergrid_tracks::{ByLeastTotal, ByShares, LayoutError, LayoutResult, Solved};
 use papergrid_values::{Direction, PerDirection, Position};
 use papergrid_walk::measure::ByLines;
 use std::alloc::Global;
@@ -198,17 +198,8 @@ where
     }
 }
 
-/// The width of each column, in columns of a terminal, and the height of each row, in lines; and for
-/// each direction the positions of the cells that certify that its total is least, where there are such.
-#[derive(Debug, Drop)]
-pub struct Certified {
-    pub widths: Vec<usize>,
-    pub heights: Vec<usize>,
-    pub width_witness: Option<Vec<Position>>,
-    pub height_witness: Option<Vec<Position>>,
-}
-
-/// The sizes that are chosen so, and the cells that certify them, by one walk over the records. By shares they are what
+/// The sizes that are chosen so along both directions, their totals with all lines, and the cells that certify them, by one walk over
+/// the records: of the columns the widths, in columns of a terminal, and of the rows the heights, in lines. By shares they are what
 /// `IterGridDimension` estimates, with the cells of `width_witness` and `height_witness`: none along a direction where two longer
 /// ranges are neither nested nor disjoint. The least ones are those of `LeastGridDimension`, with the cells of
 /// `width_certificate` and `height_certificate`.
@@ -224,19 +215,13 @@ pub fn certify<R: Records + Drop>(
     records: R,
     config: &SpannedConfig,
     sizing: Sizing,
-) -> Result<Certified, LayoutError>
+) -> LayoutResult<PerDirection<Solved>>
 where
     <<R as Records>::Iter as IntoRecords>::Cell: AsStr + Drop,
     requires { R.is_lawful records }
     ensures { UnlessMemory result (TellsRows R.tells records (λ cells.
-        IsCertifiedBy (spanned_grid config.now) (line_measure R.Iter.Cell.text)
-        (R.columns records) cells sizing result)) }
+        AnswersBothWhere (spanned_grid config.now) (line_measure R.Iter.Cell.text)
+        (R.columns records) cells (AreTooLargeBy sizing) (IsCertifiedBy sizing) result)) }
 {
-    let PerDirection { columns, rows } = solve_by(alloc, records, config, sizing, true)?;
-    Ok(Certified {
-        widths: columns.sizes,
-        heights: rows.sizes,
-        width_witness: columns.certificate,
-        height_witness: rows.certificate,
-    })
+    solve_by(alloc, records, config, sizing, true)
 }

@@ -28,7 +28,7 @@ pub use compact::CompactGridDimension;
 pub use dimension::{Dimension, Estimate};
 pub use iterable::IterGridDimension;
 pub use least::LeastGridDimension;
-pub use papergrid_tracks::{LayoutError, LayoutResult};
+pub use papergrid_tracks::{LayoutError, LayoutResult, Solved};
 pub use papergrid_values::PerDirection;
 pub use peekable::PeekableGridDimension;
 pub use point::cell_at;

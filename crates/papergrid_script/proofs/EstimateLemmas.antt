@@ -1,26 +1,26 @@
 -- What an estimate is, by the answers of a dimension, and what follows from it.
-use Rattle.std.proofs.Common.{◌≡◌, ◌⊎◌, ◌∙◌, ℕ, ◌<◌, ◌≤◌, ◌^◌, Bool, true, false, List, ◌||◌, length, map, refl, ap, sym, subst, arith, inl, inr, nat_le}
-use Rattle.std.specs.Prelude.{Option, Some, None, Result, Ok, Err}
+use Rattle.std.proofs.Common.{◌≡◌, ◌⊎◌, ◌∙◌, ℕ, ◌<◌, ◌≤◌, ◌^◌, Bool, true, false, List, ◌||◌, map, refl, ap, sym, subst, arith, inl, inr, nat_le}
+use Rattle.std.specs.Prelude.{Option, Some, None, Result, Ok, Err, if◌then◌else◌}
 use Rattle.std.proofs.lemmas.Bool.Decides.{nat_tests}
+use Rattle.papergrid_values.specs.declared.per_direction.PerDirection.{PerDirection}
 use Rattle.papergrid_values.specs.declared.position.Position.{Position}
 use Rattle.papergrid_values.specs.declared.direction.Direction.TheVariants.{Columns, Rows}
 use Rattle.papergrid_tracks.specs.declared.error.LayoutError.{LayoutError}
 use Rattle.papergrid_tracks.specs.declared.error.LayoutError.TheVariants as layout_errors
+use Rattle.papergrid_tracks.specs.declared.solution.Solved.{Solved}
 use Rattle.papergrid_tracks.specs.Problem.{Problem, total_of}
 use Rattle.papergrid_tracks.specs.Ranges.{first_out}
 use Rattle.papergrid_tracks.proofs.LeastLemmas.{exact-least, exact-critical_path}
 use Rattle.papergrid_walk.specs.Cells.{problem_of}
 use Rattle.papergrid_maps.specs.Grids.{Grid}
-use Rattle.papergrid_layout.specs.Answers.{AreSizesBy, AreTooLargeBy, IsBothRefusedWhere, UnlessMemoryError, first_out_of_table}
-use Rattle.papergrid_layout.specs.Certificates.{AreCertified, IsCertificateBy, places_of}
-use Rattle.papergrid_layout.specs.declared.certificates.Certified.{Certified}
+use Rattle.papergrid_layout.specs.Answers.{AnswersBothWhere, AreSizesBy, AreTooLargeBy, UnlessMemory, first_out_of_table}
+use Rattle.papergrid_layout.specs.Certificates.{AreSolutionsBy, IsCertificateBy, IsCertifiedBy, IsSolutionBy, Solution, solutions_of}
 use Rattle.papergrid_layout.proofs.Told.{first_told, problem_told, certificate_is}
 use Rattle.papergrid_layout.proofs.PairLemmas.{none_overflows}
-use Rattle.papergrid_script.specs.declared.estimate.Sizes.{Sizes}
 use Rattle.papergrid_layout.specs.declared.sizing.Sizing.{Sizing}
 use Rattle.papergrid_layout.specs.declared.sizing.Sizing.TheVariants.{ByShares, Least}
-use Rattle.papergrid_script.specs.Estimates.{Estimate, OutOfTable, TooLarge, Sized, unless_large, unless_out, sizes_by, certificate_by, totalled_sizes, estimate_by}
-use Rattle.papergrid_script.specs.ForProofs.Sized.{GivesEstimate, total_with_lines}
+use Rattle.papergrid_script.specs.Estimates.{Estimate, OutOfTable, TooLarge, Sized, unless_large, unless_out, solution_by, estimate_by}
+use Rattle.papergrid_script.specs.ForProofs.Sized.{GivesEstimate}
 
 -- ---- tests and options
 
@@ -30,39 +30,59 @@ or_true false = refl
 
 -- ---- totals
 
-pub large : (w h : List ℕ) (m n : ℕ) (a b : Option (List Position)) → (2 ^ 64 ≤ m) ⊎ (2 ^ 64 ≤ n) → unless_large w h m n a b ≡ TooLarge
-large w h m n a b past = elim past [
-  | inl wide ↦ let test : nat_le (2 ^ 64) m ≡ true = grind (arith, nat_tests) in rw test refl
-  | inr high ↦ let test : nat_le (2 ^ 64) n ≡ true = grind (arith, nat_tests) in rw (test, or_true) refl
-]
+pub large : (found : PerDirection Solution) → (2 ^ 64 ≤ found.columns.total) ⊎ (2 ^ 64 ≤ found.rows.total) → unless_large found ≡ TooLarge
+large found past = by_test found.columns.total found.rows.total past
+  where
+    by_test : (m n : ℕ) → (2 ^ 64 ≤ m) ⊎ (2 ^ 64 ≤ n) → (if nat_le (2 ^ 64) m || nat_le (2 ^ 64) n then TooLarge else Sized found) ≡ TooLarge
+    by_test m n (inl wide) = let test : nat_le (2 ^ 64) m ≡ true = grind (arith, nat_tests) in rw test refl
+    by_test m n (inr high) = let test : nat_le (2 ^ 64) n ≡ true = grind (arith, nat_tests) in rw (test, or_true) refl
 
-pub sized : (w h : List ℕ) (m n : ℕ) (a b : Option (List Position)) → m < 2 ^ 64 → n < 2 ^ 64 → unless_large w h m n a b ≡ Sized w h m n a b
-sized w h m n a b narrow low =
-    let wide : nat_le (2 ^ 64) m ≡ false = grind (arith, nat_tests) in
-    let high : nat_le (2 ^ 64) n ≡ false = grind (arith, nat_tests) in
-    rw (wide, high) refl
+pub sized : (found : PerDirection Solution) → found.columns.total < 2 ^ 64 → found.rows.total < 2 ^ 64 → unless_large found ≡ Sized found
+sized found narrow low = by_test found.columns.total found.rows.total narrow low
+  where
+    by_test : (m n : ℕ) → m < 2 ^ 64 → n < 2 ^ 64 → (if nat_le (2 ^ 64) m || nat_le (2 ^ 64) n then TooLarge else Sized found) ≡ Sized found
+    by_test m n narrow low =
+        let wide : nat_le (2 ^ 64) m ≡ false = grind (arith, nat_tests) in
+        let high : nat_le (2 ^ 64) n ≡ false = grind (arith, nat_tests) in
+        rw (wide, high) refl
 
 -- ---- along a direction
+
+-- the total is that of the sizes
+pub total_by : (sizing : Sizing) (problem : Problem) → (solution_by sizing problem).total ≡ total_of problem (solution_by sizing problem).sizes
+total_by ByShares problem = refl
+total_by Least problem = refl
 
 -- what holds of chosen sizes, however they are chosen
 record AreFound (sizing : Sizing) (problem : Problem) (sizes : List ℕ) : Type 0 where
   none_out : first_out problem.count problem.demands ≡ None
-  exact : sizes ≡ sizes_by sizing problem
-  one_each : length sizes ≡ problem.count
+  exact : sizes ≡ (solution_by sizing problem).sizes
   total : total_of problem sizes < 2 ^ 64
 
 are_found : (sizing : Sizing) (problem : Problem) (sizes : List ℕ) → AreSizesBy sizing problem sizes → AreFound sizing problem sizes
-are_found ByShares problem sizes are = record { none_out = are.none_out; exact = are.exact; one_each = are.fits.one_each; total = are.total }
-are_found Least problem sizes are = record { none_out = are.none_out; exact = exact-least problem sizes are; one_each = are.least.fits.one_each; total = are.total }
+are_found ByShares problem sizes are = record { none_out = are.none_out; exact = are.exact; total = are.total }
+are_found Least problem sizes are = record { none_out = are.none_out; exact = exact-least problem sizes are; total = are.total }
 
-none_large : (sizing : Sizing) (problem : Problem) → AreTooLargeBy sizing problem → 2 ^ 64 ≤ total_of problem (sizes_by sizing problem)
+none_large : (sizing : Sizing) (problem : Problem) → AreTooLargeBy sizing problem → 2 ^ 64 ≤ (solution_by sizing problem).total
 none_large ByShares problem none = none.too_large
 none_large Least problem none = none.too_large
 
-found_certificate : (sizing : Sizing) (problem : Problem) (found : Option (List Position)) → IsCertificateBy sizing problem found → found ≡ certificate_by sizing problem
+found_certificate : (sizing : Sizing) (problem : Problem) (found : Option (List Position)) → IsCertificateBy sizing problem found → found ≡ (solution_by sizing problem).certificate
 found_certificate ByShares problem found is = certificate_is problem found is
 found_certificate Least problem None is = absurd is
 found_certificate Least problem (Some places) critical_path = ap Some (exact-critical_path problem places critical_path)
+
+-- what is found is what is chosen, with its total and certificate
+found_solution : (sizing : Sizing) (problem : Problem) (found : Solution) → IsSolutionBy sizing problem found → found ≡ solution_by sizing problem
+found_solution sizing problem found is =
+    let sizes = (are_found sizing problem found.sizes is.sizes).exact in
+    let total = is.total ∙ ap (total_of problem) sizes ∙ sym (total_by sizing problem) in
+    let certificate = found_certificate sizing problem found.certificate is.certificate in
+    λ i. record { sizes = sizes i; total = total i; certificate = certificate i }
+
+-- both directions
+abbrev pub solutions_by : Sizing → Problem → Problem → PerDirection Solution
+solutions_by sizing across down = record { columns = solution_by sizing across; rows = solution_by sizing down }
 
 module _ {C : Type 0} (grid : Grid) (measure : C → ℕ × ℕ) (columns : ℕ) (cells : List (List C)) where
   module _ (sizing : Sizing) where
@@ -76,45 +96,30 @@ module _ {C : Type 0} (grid : Grid) (measure : C → ℕ × ℕ) (columns : ℕ)
 
     pub estimate_out : (place : Position) → first_out_of_table grid measure columns cells ≡ Some place → estimate_by sizing grid measure columns cells ≡ OutOfTable place
     unfolding estimate_by
-    estimate_out place first = ap (λ o. unless_out o (totalled_sizes sizing across down)) first
+    estimate_out place first = ap (λ o. unless_out o (unless_large (solutions_by sizing across down))) first
 
-    estimate_inside : first_out_of_table grid measure columns cells ≡ None → estimate_by sizing grid measure columns cells ≡ totalled_sizes sizing across down
+    estimate_inside : first_out_of_table grid measure columns cells ≡ None → estimate_by sizing grid measure columns cells ≡ unless_large (solutions_by sizing across down)
     unfolding estimate_by
-    estimate_inside none = ap (λ o. unless_out o (totalled_sizes sizing across down)) none
+    estimate_inside none = ap (λ o. unless_out o (unless_large (solutions_by sizing across down))) none
 
-    pub estimate_large : first_out_of_table grid measure columns cells ≡ None → (2 ^ 64 ≤ total_of across (sizes_by sizing across)) ⊎ (2 ^ 64 ≤ total_of down (sizes_by sizing down))
+    pub estimate_large : first_out_of_table grid measure columns cells ≡ None → (2 ^ 64 ≤ (solution_by sizing across).total) ⊎ (2 ^ 64 ≤ (solution_by sizing down).total)
         → estimate_by sizing grid measure columns cells ≡ TooLarge
-    estimate_large none past =
-        estimate_inside none
-        ∙ large (sizes_by sizing across) (sizes_by sizing down) (total_of across (sizes_by sizing across)) (total_of down (sizes_by sizing down)) (certificate_by sizing across) (certificate_by sizing down) past
+    estimate_large none past = estimate_inside none ∙ large (solutions_by sizing across down) past
 
     pub estimate_none : first_out_of_table grid measure columns cells ≡ None → AreTooLargeBy sizing across ⊎ AreTooLargeBy sizing down → estimate_by sizing grid measure columns cells ≡ TooLarge
     estimate_none none too_large = estimate_large none (elim too_large [ inl wide ↦ inl (none_large sizing across wide) | inr high ↦ inr (none_large sizing down high) ])
 
-    module _ (certified : Certified) (are : AreCertified grid measure columns cells sizing certified.widths.items certified.heights.items (places_of certified.width_witness) (places_of certified.height_witness)) where
-      wide : AreFound sizing across certified.widths.items
-      wide = are_found sizing across certified.widths.items are.sizes.widths
-
-      high : AreFound sizing down certified.heights.items
-      high = are_found sizing down certified.heights.items are.sizes.heights
-
-      pub width_fits : total_with_lines Columns grid (length certified.widths.items) certified.widths.items < 2 ^ 64
-      width_fits = subst (λ n. total_with_lines Columns grid n certified.widths.items < 2 ^ 64) (sym wide.one_each) wide.total
-
-      pub height_fits : total_with_lines Rows grid (length certified.heights.items) certified.heights.items < 2 ^ 64
-      height_fits = subst (λ n. total_with_lines Rows grid n certified.heights.items < 2 ^ 64) (sym high.one_each) high.total
-
-      -- sizes with what certifies them are what is estimated
-      pub estimate_certified : estimate_by sizing grid measure columns cells
-          ≡ Sized certified.widths.items certified.heights.items (total_with_lines Columns grid (length certified.widths.items) certified.widths.items)
-          (total_with_lines Rows grid (length certified.heights.items) certified.heights.items) (places_of certified.width_witness) (places_of certified.height_witness)
-      estimate_certified =
-          estimate_inside ((none_overflows grid measure columns cells).1 (wide.none_out, high.none_out))
-          ∙ (λ i. unless_large (sym wide.exact i) (sym high.exact i)
-          (total_with_lines Columns grid (sym wide.one_each i) (sym wide.exact i)) (total_with_lines Rows grid (sym high.one_each i) (sym high.exact i))
-          (sym (found_certificate sizing across (places_of certified.width_witness) are.certifies_widths) i) (sym (found_certificate sizing down (places_of certified.height_witness) are.certifies_heights) i))
-          ∙ sized certified.widths.items certified.heights.items (total_with_lines Columns grid (length certified.widths.items) certified.widths.items)
-          (total_with_lines Rows grid (length certified.heights.items) certified.heights.items) (places_of certified.width_witness) (places_of certified.height_witness) width_fits height_fits
+    -- what is found is what is estimated
+    pub estimate_found : (found : PerDirection Solution) → AreSolutionsBy grid measure columns cells sizing found → estimate_by sizing grid measure columns cells ≡ Sized found
+    estimate_found found are =
+        let wide = are_found sizing across found.columns.sizes are.widths.sizes in
+        let high = are_found sizing down found.rows.sizes are.heights.sizes in
+        let same_wide = found_solution sizing across found.columns are.widths in
+        let same_high = found_solution sizing down found.rows are.heights in
+        let same : unless_large (solutions_by sizing across down) ≡ unless_large found =
+        λ i. unless_large (record { columns = sym same_wide i; rows = sym same_high i }) in
+        estimate_inside ((none_overflows grid measure columns cells).1 (wide.none_out, high.none_out)) ∙ same
+        ∙ sized found (subst (λ t. t < 2 ^ 64) (sym are.widths.total) wide.total) (subst (λ t. t < 2 ^ 64) (sym are.heights.total) high.total)
 
 -- cells that are seen through a view
 module _ {A B : Type 0} (grid : Grid) (v : A → B) (f : B → ℕ × ℕ) (columns : ℕ) (cells : List (List A)) (rows : List (List B)) (same : map (map v) cells ≡ rows) where
@@ -124,21 +129,23 @@ module _ {A B : Type 0} (grid : Grid) (v : A → B) (f : B → ℕ × ℕ) (colu
       let wide = problem_told grid v f cells rows same Columns columns in
       let high = problem_told grid v f cells rows same Rows columns in
       let first = first_told grid v f cells rows same columns in
-      λ i. unless_out (first i) (totalled_sizes sizing (wide i) (high i))
+      λ i. unless_out (first i) (unless_large (solutions_by sizing (wide i) (high i)))
 
 -- ---- results
 
--- why there are no certified sizes of the cells told is why these have no estimate
-pub refused : {C : Type 0} (Tells : List (List C) → Type 0) (sizing : Sizing) (grid : Grid) (measure : C → ℕ × ℕ) (columns : ℕ) (e : LayoutError)
-    → UnlessMemoryError e ((cells : List (List C)) × Tells cells × IsBothRefusedWhere grid measure columns cells (AreTooLargeBy sizing) e)
-    → GivesEstimate (Err e) (λ answer. (cells : List (List C)) × Tells cells × (answer ≡ estimate_by sizing grid measure columns cells))
-refused Tells sizing grid measure columns (layout_errors.OutOfTable place) is = (is.0, is.1, sym (estimate_out grid measure columns is.0 sizing place is.2))
-refused Tells sizing grid measure columns layout_errors.TooLarge is = (is.0, is.1, sym (estimate_none grid measure columns is.0 sizing is.2.0 is.2.1))
-refused Tells sizing grid measure columns (layout_errors.Memory e) is = tt
+-- what is certified of the cells told, or why nothing is, is their estimate
+pub estimated : {C : Type 0} (Tells : List (List C) → Type 0) (sizing : Sizing) (grid : Grid) (measure : C → ℕ × ℕ) (columns : ℕ) (result : Result (PerDirection Solved) LayoutError)
+    → UnlessMemory result ((cells : List (List C)) × Tells cells × AnswersBothWhere grid measure columns cells (AreTooLargeBy sizing) (IsCertifiedBy sizing) result)
+    → GivesEstimate result (λ answer. (cells : List (List C)) × Tells cells × (answer ≡ estimate_by sizing grid measure columns cells))
+estimated Tells sizing grid measure columns (Ok found) is =
+    (is.0, is.1, sym (estimate_found grid measure columns is.0 sizing (solutions_of found) (record { widths = is.2.widths; heights = is.2.heights })))
+estimated Tells sizing grid measure columns (Err (layout_errors.OutOfTable place)) is = (is.0, is.1, sym (estimate_out grid measure columns is.0 sizing place is.2))
+estimated Tells sizing grid measure columns (Err layout_errors.TooLarge) is = (is.0, is.1, sym (estimate_none grid measure columns is.0 sizing is.2.0 is.2.1))
+estimated Tells sizing grid measure columns (Err (layout_errors.Memory e)) is = tt
 
 -- an estimate that is so is also what follows from it
-pub gives_also : (result : Result Sizes LayoutError) (IsSo IsAlso : Estimate → Type 0) → ((e : Estimate) → IsSo e → IsAlso e) → GivesEstimate result IsSo → GivesEstimate result IsAlso
-gives_also (Ok sizes) IsSo IsAlso follows so = follows _ so
+pub gives_also : (result : Result (PerDirection Solved) LayoutError) (IsSo IsAlso : Estimate → Type 0) → ((e : Estimate) → IsSo e → IsAlso e) → GivesEstimate result IsSo → GivesEstimate result IsAlso
+gives_also (Ok found) IsSo IsAlso follows so = follows _ so
 gives_also (Err (layout_errors.OutOfTable place)) IsSo IsAlso follows so = follows _ so
 gives_also (Err layout_errors.TooLarge) IsSo IsAlso follows so = follows _ so
 gives_also (Err (layout_errors.Memory e)) IsSo IsAlso follows so = so

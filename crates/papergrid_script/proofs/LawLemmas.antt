@@ -1,8 +1,9 @@
 -- What the estimate of a table says of the table.
-use Rattle.std.proofs.Common.{◌≡◌, ◌⊎◌, ◌∙◌, ℕ, ◌<◌, ◌≤◌, ◌+◌, ◌^◌, Bool, true, false, List, length, map, refl, ap, sym, subst, arith, inl, inr, nat_le}
+use Rattle.std.proofs.Common.{◌≡◌, ◌⊎◌, ◌∙◌, ℕ, ◌<◌, ◌≤◌, ◌+◌, ◌^◌, Bool, true, false, ◌||◌, length, map, refl, ap, sym, subst, arith, inl, inr, nat_le}
 use Rattle.std.specs.Prelude.{◌↔◌, All, Option, Some, None, sum, if◌then◌else◌}
 use Rattle.std.proofs.lemmas.Bool.Decides.{nat_tests}
 use Rattle.std.proofs.lemmas.List.Elements.{All-map}
+use Rattle.papergrid_values.specs.declared.per_direction.PerDirection.{PerDirection}
 use Rattle.papergrid_values.specs.declared.position.Position.{Position}
 use Rattle.papergrid_tracks.specs.declared.demand.Demand.{Demand}
 use Rattle.papergrid_values.specs.declared.direction.Direction.{Direction}
@@ -25,24 +26,24 @@ use Rattle.papergrid_layout.specs.Certificates.{certificate_by_shares}
 use Rattle.papergrid_layout.proofs.PairLemmas.{none_overflows}
 use Rattle.papergrid_layout.specs.declared.sizing.Sizing.{Sizing}
 use Rattle.papergrid_layout.specs.declared.sizing.Sizing.TheVariants.{ByShares, Least}
-use Rattle.papergrid_script.specs.Estimates.{Estimate, OutOfTable, TooLarge, Sized, unless_large, unless_out, sizes_by, certificate_by, estimate_by, estimate_of}
+use Rattle.papergrid_script.specs.Estimates.{Estimate, OutOfTable, TooLarge, Sized, unless_large, unless_out, solution_by, estimate_by, estimate_of}
 use Rattle.papergrid_walk.specs.Measures.{text_measure}
 use Rattle.papergrid_script.specs.Grids.{grid_of}
 use Rattle.papergrid_script.specs.Scripts.{Table}
 use Rattle.papergrid_script.specs.Totals.{AreSized, IsTableTooLarge, problem_of_table}
 use Rattle.papergrid_layout.specs.Answers.{AreSizesBy, AreTooLargeBy}
-use Rattle.papergrid_layout.specs.Certificates.{IsCertificateBy}
-use Rattle.papergrid_script.proofs.EstimateLemmas.{estimate_large, estimate_out}
+use Rattle.papergrid_layout.specs.Certificates.{IsCertificateBy, IsSolutionBy, Solution}
+use Rattle.papergrid_script.proofs.EstimateLemmas.{estimate_large, estimate_out, solutions_by, total_by}
 use Rattle.papergrid_script.proofs.GridLemmas.{grid_covers, grid_draws}
 
 -- ---- along a direction
 
 module _ (problem : Problem) (table : All (IsInTable problem.count) problem.demands) (inside : first_out problem.count problem.demands ≡ None) where
-  sizes_are : (sizing : Sizing) → total_of problem (sizes_by sizing problem) < 2 ^ 64 → AreSizesBy sizing problem (sizes_by sizing problem)
+  sizes_are : (sizing : Sizing) → (solution_by sizing problem).total < 2 ^ 64 → AreSizesBy sizing problem (solution_by sizing problem).sizes
   sizes_are ByShares small = AreSizes-sizes_of problem table (sizes_of problem) refl small
   sizes_are Least small = AreLeastSizes-least_of problem table inside small
 
-  has_none : (sizing : Sizing) → 2 ^ 64 ≤ total_of problem (sizes_by sizing problem) → AreTooLargeBy sizing problem
+  has_none : (sizing : Sizing) → 2 ^ 64 ≤ (solution_by sizing problem).total → AreTooLargeBy sizing problem
   has_none ByShares past = AreSizesTooLarge-sizes_of problem table (λ small. absurd (omega arith))
   has_none Least past = AreLeastTooLarge-least_of problem table inside past
 
@@ -55,7 +56,7 @@ module _ (problem : Problem) (table : All (IsInTable problem.count) problem.dema
           record { none_out = inside; total = small; laminar = apart; exact = refl; certificate = IsCertificate-certificate_cells_of problem table apart }
       by_test false f = record { none_out = inside; total = small; not_laminar = SomeCross-from_test problem.demands f }
 
-  is_certificate : (sizing : Sizing) → total_of problem (sizes_by sizing problem) < 2 ^ 64 → IsCertificateBy sizing problem (certificate_by sizing problem)
+  is_certificate : (sizing : Sizing) → (solution_by sizing problem).total < 2 ^ 64 → IsCertificateBy sizing problem (solution_by sizing problem).certificate
   is_certificate ByShares small = shares_certificate small
   is_certificate Least small = AreCriticalPath-critical_path problem table inside small
 
@@ -69,21 +70,22 @@ module _ (problem : Problem) (table : All (IsInTable problem.count) problem.dema
 
 -- ---- the three answers
 
-estimate_cases : (o : Option Position) (w h : List ℕ) (m n : ℕ) (a b : Option (List Position)) (e : Estimate) → unless_out o (unless_large w h m n a b) ≡ e
+estimate_cases : (o : Option Position) (found : PerDirection Solution) (e : Estimate) → unless_out o (unless_large found) ≡ e
     → ((place : Position) × (o ≡ Some place) × (e ≡ OutOfTable place))
-    ⊎ (((o ≡ None) × (e ≡ TooLarge) × ((2 ^ 64 ≤ m) ⊎ (2 ^ 64 ≤ n)))
-    ⊎ ((o ≡ None) × (e ≡ Sized w h m n a b) × (m < 2 ^ 64) × (n < 2 ^ 64)))
-estimate_cases (Some place) w h m n a b e is = inl (place, refl, sym is)
-estimate_cases None w h m n a b e is = elim (by_test (nat_le (2 ^ 64) m) (nat_le (2 ^ 64) n) refl refl) [
+    ⊎ (((o ≡ None) × (e ≡ TooLarge) × ((2 ^ 64 ≤ found.columns.total) ⊎ (2 ^ 64 ≤ found.rows.total)))
+    ⊎ ((o ≡ None) × (e ≡ Sized found) × (found.columns.total < 2 ^ 64) × (found.rows.total < 2 ^ 64)))
+estimate_cases (Some place) found e is = inl (place, refl, sym is)
+estimate_cases None found e is = elim (by_test found.columns.total found.rows.total is (nat_le (2 ^ 64) found.columns.total) (nat_le (2 ^ 64) found.rows.total) refl refl) [
   | inl large ↦ inr (inl (refl, large.0, large.1))
   | inr sized ↦ inr (inr (refl, sized.0, sized.1, sized.2))
 ]
   where
-    by_test : (p q : Bool) → nat_le (2 ^ 64) m ≡ p → nat_le (2 ^ 64) n ≡ q
-        → ((e ≡ TooLarge) × ((2 ^ 64 ≤ m) ⊎ (2 ^ 64 ≤ n))) ⊎ ((e ≡ Sized w h m n a b) × (m < 2 ^ 64) × (n < 2 ^ 64))
-    by_test true q wide high = let past : 2 ^ 64 ≤ m = grind (arith, nat_tests) in inl (sym is ∙ rw wide refl, inl past)
-    by_test false true wide high = let past : 2 ^ 64 ≤ n = grind (arith, nat_tests) in inl (sym is ∙ rw (wide, high) refl, inr past)
-    by_test false false wide high =
+    by_test : (m n : ℕ) → (if nat_le (2 ^ 64) m || nat_le (2 ^ 64) n then TooLarge else Sized found) ≡ e
+        → (p q : Bool) → nat_le (2 ^ 64) m ≡ p → nat_le (2 ^ 64) n ≡ q
+        → ((e ≡ TooLarge) × ((2 ^ 64 ≤ m) ⊎ (2 ^ 64 ≤ n))) ⊎ ((e ≡ Sized found) × (m < 2 ^ 64) × (n < 2 ^ 64))
+    by_test m n is true q wide high = let past : 2 ^ 64 ≤ m = grind (arith, nat_tests) in inl (sym is ∙ rw wide refl, inl past)
+    by_test m n is false true wide high = let past : 2 ^ 64 ≤ n = grind (arith, nat_tests) in inl (sym is ∙ rw (wide, high) refl, inr past)
+    by_test m n is false false wide high =
         let narrow : m < 2 ^ 64 = grind (arith, nat_tests) in
         let low : n < 2 ^ 64 = grind (arith, nat_tests) in
         inr (sym is ∙ rw (wide, high) refl, narrow, low)
@@ -102,36 +104,40 @@ module _ (table : Table) where
       (All-map (λ (d : Demand). 1 ≤ d.span) (demand_by direction grid text_measure) (visible_cells grid table.rows) (λ k x l. grid_covers table.settings direction _))
 
   module _ (sizing : Sizing) where
-    abbrev sizes : Direction → List ℕ
-    sizes direction = sizes_by sizing (problem_of_table table direction)
+    abbrev along : Direction → Solution
+    along direction = solution_by sizing (problem_of_table table direction)
 
     abbrev total : Direction → ℕ
-    total direction = total_of (problem_of_table table direction) (sizes direction)
+    total direction = (along direction).total
 
-    abbrev witness : Direction → Option (List Position)
-    witness direction = certificate_by sizing (problem_of_table table direction)
+    abbrev solutions : PerDirection Solution
+    solutions = solutions_by sizing (problem_of_table table Columns) (problem_of_table table Rows)
 
     cases : (e : Estimate) → estimate_of sizing table ≡ e
         → ((place : Position) × (first ≡ Some place) × (e ≡ OutOfTable place))
         ⊎ (((first ≡ None) × (e ≡ TooLarge) × ((2 ^ 64 ≤ total Columns) ⊎ (2 ^ 64 ≤ total Rows)))
-        ⊎ ((first ≡ None) × (e ≡ Sized (sizes Columns) (sizes Rows) (total Columns) (total Rows) (witness Columns) (witness Rows)) × (total Columns < 2 ^ 64) × (total Rows < 2 ^ 64)))
+        ⊎ ((first ≡ None) × (e ≡ Sized solutions) × (total Columns < 2 ^ 64) × (total Rows < 2 ^ 64)))
     unfolding estimate_by
-    cases e is = estimate_cases first (sizes Columns) (sizes Rows) (total Columns) (total Rows) (witness Columns) (witness Rows) e is
+    cases e is = estimate_cases first solutions e is
 
-    are_sized : first ≡ None → total Columns < 2 ^ 64 → total Rows < 2 ^ 64 → AreSized sizing table (sizes Columns) (sizes Rows) (total Columns) (total Rows) (witness Columns) (witness Rows)
+    -- along a direction
+    solution_is : (direction : Direction) → first_out (problem_of_table table direction).count (problem_of_table table direction).demands ≡ None → total direction < 2 ^ 64
+        → IsSolutionBy sizing (problem_of_table table direction) (along direction)
+    solution_is direction inside small =
+        let problem = problem_of_table table direction in
+        record {
+          sizes = sizes_are problem (in_table direction inside) inside sizing small;
+          total = total_by sizing problem;
+          certificate = is_certificate problem (in_table direction inside) inside sizing small;
+        }
+
+    are_sized : first ≡ None → total Columns < 2 ^ 64 → total Rows < 2 ^ 64 → AreSized sizing table solutions
     are_sized none narrow low =
         let inside = (none_overflows grid text_measure table.columns table.rows).0 none in
         record {
-          certified = record {
-            sizes = record {
-              widths = sizes_are (problem_of_table table Columns) (in_table Columns inside.0) inside.0 sizing narrow;
-              heights = sizes_are (problem_of_table table Rows) (in_table Rows inside.1) inside.1 sizing low;
-            };
-            certifies_widths = is_certificate (problem_of_table table Columns) (in_table Columns inside.0) inside.0 sizing narrow;
-            certifies_heights = is_certificate (problem_of_table table Rows) (in_table Rows inside.1) inside.1 sizing low;
-          };
-          is_width = ap (λ draws. sum (sizes Columns) + all_lines (draws table.columns) table.columns) (grid_draws table.settings Columns);
-          is_height = ap (λ draws. sum (sizes Rows) + all_lines (draws (length table.rows)) (length table.rows)) (grid_draws table.settings Rows);
+          solutions = record { widths = solution_is Columns inside.0 narrow; heights = solution_is Rows inside.1 low };
+          is_width = total_by sizing (problem_of_table table Columns) ∙ ap (λ draws. sum (along Columns).sizes + all_lines (draws table.columns) table.columns) (grid_draws table.settings Columns);
+          is_height = total_by sizing (problem_of_table table Rows) ∙ ap (λ draws. sum (along Rows).sizes + all_lines (draws (length table.rows)) (length table.rows)) (grid_draws table.settings Rows);
           width_fits = narrow;
           height_fits = low;
         }
@@ -165,20 +171,12 @@ module _ (table : Table) where
     pub too_large : estimate_of sizing table ≡ TooLarge → IsTableTooLarge sizing table
     too_large is = let named = named_large is in are_large named.0 named.1
 
-    pub all_sized : (ws hs : List ℕ) (m n : ℕ) (a b : Option (List Position)) → estimate_of sizing table ≡ Sized ws hs m n a b → AreSized sizing table ws hs m n a b
-    all_sized ws hs m n a b is = elim (cases (Sized ws hs m n a b) is) [
+    pub all_sized : (found : PerDirection Solution) → estimate_of sizing table ≡ Sized found → AreSized sizing table found
+    all_sized found is = elim (cases (Sized found) is) [
       | inl out ↦ cc out.2
       | inr other ↦ elim other [
         | inl large ↦ cc large.1
-        | inr sized ↦
-            let w : sizes Columns ≡ ws = cc sized.1 in
-            let t : sizes Rows ≡ hs = cc sized.1 in
-            let wide : total Columns ≡ m = cc sized.1 in
-            let high : total Rows ≡ n = cc sized.1 in
-            let across : witness Columns ≡ a = cc sized.1 in
-            let down : witness Rows ≡ b = cc sized.1 in
-            subst (λ (s : (List ℕ × List ℕ) × (ℕ × ℕ) × (Option (List Position) × Option (List Position))). AreSized sizing table s.0.0 s.0.1 s.1.0 s.1.1 s.2.0 s.2.1)
-            (λ i. ((w i, t i), (wide i, high i), (across i, down i))) (are_sized sized.0 sized.2 sized.3)
+        | inr sized ↦ let same : solutions ≡ found = cc sized.1 in subst (AreSized sizing table) same (are_sized sized.0 sized.2 sized.3)
       ]
     ]
 

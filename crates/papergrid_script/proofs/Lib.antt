@@ -11,6 +11,7 @@ mod MarkLemmas
 mod RangeLemmas
 mod ReadLemmas
 mod ReasonLemmas
+pub mod RunLemmas
 mod ScriptLineLemmas
 mod SeenLemmas
 mod SpellLemmas

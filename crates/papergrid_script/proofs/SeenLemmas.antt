@@ -3,7 +3,9 @@ use Rattle.std.proofs.Common.{◌≡◌, ℕ, List, map, ap, ◌∙◌}
 use Rattle.std.specs.Prelude.{Result}
 use Rattle.std.specs.Borrow.{Bor}
 use Rattle.papergrid_text.proofs.RowSteps.{told_by}
+use Rattle.papergrid_values.specs.declared.per_direction.PerDirection.{PerDirection}
 use Rattle.papergrid_tracks.specs.declared.error.LayoutError.{LayoutError}
+use Rattle.papergrid_tracks.specs.declared.solution.Solved.{Solved}
 use Rattle.papergrid_config.specs.History.{HasSettingHistory}
 use Rattle.papergrid_config.specs.declared.spanned.SpannedConfig.{SpannedConfig}
 use Rattle.papergrid_config.specs.Grids.{spanned_grid}
@@ -14,7 +16,6 @@ use Rattle.papergrid_script.specs.Grids.{grid_of}
 use Rattle.papergrid_script.specs.Seen.{rows_seen, table_seen}
 use Rattle.papergrid_script.specs.Settings.{setting_told}
 use Rattle.papergrid_script.specs.ForProofs.Sized.{GivesEstimate}
-use Rattle.papergrid_script.specs.declared.estimate.Sizes.{Sizes}
 use Rattle.papergrid_layout.specs.declared.sizing.Sizing.{Sizing}
 use Rattle.papergrid_script.specs.declared.script.Script.{Script}
 use Rattle.papergrid_script.proofs.EstimateLemmas.{estimate_told, gives_also}
@@ -31,7 +32,7 @@ seen view script config cells rows columns sizing e told tells same_rows same_co
     ∙ estimate_told (grid_of (map setting_told script.settings.items)) (λ cell. (view cell).now) text_measure script.columns cells (rows_seen script.rows.items) texts sizing
 
 -- so whatever is estimated of records whose cells are the script's is estimated of its table
-pub gives_seen : {A : Type 0} (view : A → Bor (List ℕ)) (script : Script) (config : SpannedConfig) (rows : List (Bor (List (Bor (List ℕ))))) (columns : ℕ) (sizing : Sizing) (result : Result Sizes LayoutError)
+pub gives_seen : {A : Type 0} (view : A → Bor (List ℕ)) (script : Script) (config : SpannedConfig) (rows : List (Bor (List (Bor (List ℕ))))) (columns : ℕ) (sizing : Sizing) (result : Result (PerDirection Solved) LayoutError)
     → HasSettingHistory (map setting_told script.settings.items) config → rows ≡ script.rows.items → columns ≡ script.columns
     → GivesEstimate result (λ e. (cells : List (List A)) × (map (map view) cells ≡ map (λ row. row.now) rows) × (e ≡ estimate_by sizing (spanned_grid config) (line_measure (λ cell. (view cell).now)) columns cells))
     → GivesEstimate result (λ e. e ≡ estimate_of sizing (table_seen script))

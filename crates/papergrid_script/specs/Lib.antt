@@ -5,6 +5,7 @@ pub mod Inputs
 pub mod Outputs
 pub mod Reasons
 pub mod Rows
+pub mod Runs
 pub mod ScriptLines
 pub mod Scripts
 pub mod Seen

@@ -31,10 +31,11 @@ certificate_line word (Some places) = word ++ spaced_places places ++ newline �
 abbrev pub estimate_text : Estimate → List ℕ
 estimate_text (OutOfTable place) = codes "refused: out of table at " ++ (decimal place.row ++ (comma ∷ (decimal place.col ++ newline ∷ [])))
 estimate_text TooLarge = codes "refused: too large" ++ newline ∷ []
-estimate_text (Sized widths heights total_width total_height width_witness height_witness) =
-    number_line (codes "widths") widths ++ number_line (codes "heights") heights
-    ++ number_line (codes "total") (total_width ∷ total_height ∷ [])
-    ++ certificate_line (codes "witness widths") width_witness ++ certificate_line (codes "witness heights") height_witness
+estimate_text (Sized found) =
+    number_line (codes "widths") found.columns.sizes ++ number_line (codes "heights") found.rows.sizes
+    ++ number_line (codes "total") (found.columns.total ∷ found.rows.total ∷ [])
+    ++ certificate_line (codes "witness widths") found.columns.certificate
+    ++ certificate_line (codes "witness heights") found.rows.certificate
 
 -- the lines that are written of a script: its first bad line, or the estimate of its table
 abbrev pub script_text : Sizing → Result Table ℕ → List ℕ
@@ -45,7 +46,7 @@ script_text sizing (Ok table) = estimate_text (estimate_of sizing table)
 abbrev pub estimate_end : Estimate → RunEnd
 estimate_end (OutOfTable place) = Refused
 estimate_end TooLarge = Refused
-estimate_end (Sized widths heights total_width total_height width_witness height_witness) = Done
+estimate_end (Sized found) = Done
 
 -- how a run ends on a script
 abbrev pub script_end : Sizing → Result Table ℕ → RunEnd

@@ -18,7 +18,7 @@ estimate_reason table (OutOfTable place) =
     let span = span_along (spans_of table.settings) in
     Some (reason.OutOfTable place (span Rows place, span Columns place) (length table.rows, table.columns))
 estimate_reason table TooLarge = Some reason.TooLarge
-estimate_reason table (Sized widths heights total_width total_height width_witness height_witness) = None
+estimate_reason table (Sized found) = None
 
 -- why a script has no sizes that are chosen so: its first bad line, or why its table is refused
 abbrev pub script_reason : Sizing → Result Table ℕ → Option Reason

@@ -1,6 +1,6 @@
 -- What the answers for a table are, apart from how they are found.
-use Rattle.std.specs.Prelude.{◌≡◌, ◌⊎◌, ℕ, ◌+◌, ◌^◌, ◌<◌, List, Option, None, length, sum}
-use Rattle.papergrid_values.specs.declared.position.Position.{Position}
+use Rattle.std.specs.Prelude.{◌≡◌, ◌⊎◌, ℕ, ◌+◌, ◌^◌, ◌<◌, List, None, length, sum}
+use Rattle.papergrid_values.specs.declared.per_direction.PerDirection.{PerDirection}
 use Rattle.papergrid_tracks.specs.Problem.{Problem}
 use Rattle.papergrid_values.specs.declared.direction.Direction.{Direction}
 use Rattle.papergrid_values.specs.declared.direction.Direction.TheVariants.{Columns, Rows}
@@ -10,7 +10,7 @@ use Rattle.papergrid_config.specs.declared.setting.Setting.{Setting}
 use Rattle.papergrid_walk.specs.Cells.{problem_of}
 use Rattle.papergrid_config.specs.Grids.{line_along}
 use Rattle.papergrid_layout.specs.Answers.{AreTooLargeBy, first_out_of_table}
-use Rattle.papergrid_layout.specs.Certificates.{AreCertified}
+use Rattle.papergrid_layout.specs.Certificates.{AreSolutionsBy, Solution}
 use Rattle.papergrid_layout.specs.declared.sizing.Sizing.{Sizing}
 use Rattle.papergrid_walk.specs.Measures.{text_measure}
 use Rattle.papergrid_script.specs.Grids.{grid_of}
@@ -30,9 +30,9 @@ pub record IsTableTooLarge (sizing : Sizing) (table : Table) : Type 0 where
   pub too_large : AreTooLargeBy sizing (problem_of_table table Columns) ⊎ AreTooLargeBy sizing (problem_of_table table Rows)
 
 -- exactly the sizes, with what holds of them and what certifies them, and their totals with the lines, which fit 64 bits
-pub record AreSized (sizing : Sizing) (table : Table) (widths heights : List ℕ) (total_width total_height : ℕ) (width_witness height_witness : Option (List Position)) : Type 0 where
-  pub certified : AreCertified (grid_of table.settings) text_measure table.columns table.rows sizing widths heights width_witness height_witness
-  pub is_width : total_width ≡ sum widths + lines_along Columns table.settings table.columns
-  pub is_height : total_height ≡ sum heights + lines_along Rows table.settings (length table.rows)
-  pub width_fits : total_width < 2 ^ 64
-  pub height_fits : total_height < 2 ^ 64
+pub record AreSized (sizing : Sizing) (table : Table) (found : PerDirection Solution) : Type 0 where
+  pub solutions : AreSolutionsBy (grid_of table.settings) text_measure table.columns table.rows sizing found
+  pub is_width : found.columns.total ≡ sum found.columns.sizes + lines_along Columns table.settings table.columns
+  pub is_height : found.rows.total ≡ sum found.rows.sizes + lines_along Rows table.settings (length table.rows)
+  pub width_fits : found.columns.total < 2 ^ 64
+  pub height_fits : found.rows.total < 2 ^ 64

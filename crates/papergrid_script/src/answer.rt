@@ -6,12 +6,12 @@ ghost use Rattle.papergrid_script.specs.Outputs.{end_by, estimate_end, estimate_
 ghost use Rattle.papergrid_script.specs.Seen.{table_seen};
 ghost use Rattle.papergrid_script.specs.ForProofs.Sized.{GivesEstimate};
 
-use crate::estimate::{Sizes, estimate};
+use crate::estimate::estimate;
 use crate::output::{bad_script_text, out_of_table_text, sizes_text, too_large_text};
 use crate::script::{Script, ScriptError, read_script};
 use crate::script_setting::configuration_of;
 use bumpalo::Bump;
-use papergrid_layout::{LayoutError, Sizing};
+use papergrid_layout::{LayoutError, LayoutResult, PerDirection, Sizing, Solved};
 use papergrid_text::IterRecords;
 use std::alloc::{AllocError, Global};
 
@@ -58,12 +58,16 @@ fn table_answer(
             Ok((RunEnd::Refused, out_of_table_text(alloc, position)?))
         }
         Err(LayoutError::TooLarge) => Ok((RunEnd::Refused, too_large_text(alloc)?)),
-        Ok(sizes) => Ok((RunEnd::Done, sizes_text(alloc, &sizes)?)),
+        Ok(found) => Ok((RunEnd::Done, sizes_text(alloc, &found)?)),
     }
 }
 
-/// The sizes of the table that a script tells.
-fn table_sizes(alloc: Global, sizing: Sizing, script: Script<'_>) -> Result<Sizes, LayoutError>
+/// The sizes of the table that a script tells, with totals and certificates.
+fn table_sizes(
+    alloc: Global,
+    sizing: Sizing,
+    script: Script<'_>,
+) -> LayoutResult<PerDirection<Solved>>
     ensures { GivesEstimate result (λ answer.
         answer ≡ estimate_of sizing (table_seen script.entry)) }
 {

@@ -1,7 +1,8 @@
 //! Laws of the definitions, each the contract of a function that does nothing.
 
-ghost use Rattle.std.specs.Prelude.{◌≡◌, ◌↔◌, ℕ, List, Option, None, Some, true, ◌+◌, All, IsUtf8, Ok, Err};
+ghost use Rattle.std.specs.Prelude.{◌≡◌, ◌↔◌, ℕ, List, None, Some, true, ◌+◌, All, IsUtf8, Ok, Err};
 ghost use Rattle.papergrid_values.specs.declared.entity.Entity.{Entity};
+ghost use Rattle.papergrid_values.specs.declared.per_direction.PerDirection.{PerDirection};
 ghost use Rattle.papergrid_values.specs.declared.position.Position.{Position};
 ghost use Rattle.papergrid_config.specs.Applied.{is_in_range};
 ghost use Rattle.papergrid_config.specs.Grids.{spanned_grid};
@@ -9,6 +10,7 @@ ghost use Rattle.papergrid_config.specs.History.{HasSettingHistory};
 ghost use Rattle.papergrid_config.specs.declared.setting.Setting.{Setting};
 ghost use Rattle.papergrid_config.specs.declared.spanned.SpannedConfig.{SpannedConfig};
 ghost use Rattle.papergrid_layout.specs.Answers.{first_out_of_table};
+ghost use Rattle.papergrid_layout.specs.Certificates.{Solution};
 ghost use Rattle.papergrid_layout.specs.declared.sizing.Sizing.{Sizing};
 ghost use Rattle.papergrid_layout.specs.declared.sizing.Sizing.TheVariants.{ByShares, Least};
 ghost use Rattle.papergrid_script.specs.Estimates.{OutOfTable, Sized, TooLarge, estimate_of};
@@ -54,11 +56,8 @@ pub fn estimate_by_grid()
         ≡ Some place) }
     ensures too_large { (sizing : Sizing) (table : Table) → estimate_of sizing table ≡ TooLarge →
         IsTableTooLarge sizing table }
-    ensures sized { (sizing : Sizing) (table : Table) (widths heights : List ℕ)
-        (total_width total_height : ℕ) (width_witness height_witness : Option (List Position)) →
-        estimate_of sizing table ≡ Sized widths heights total_width total_height width_witness
-        height_witness →
-        AreSized sizing table widths heights total_width total_height width_witness height_witness }
+    ensures sized { (sizing : Sizing) (table : Table) (found : PerDirection Solution) →
+        estimate_of sizing table ≡ Sized found → AreSized sizing table found }
     ensures least_too_large { (table : Table) → estimate_of Least table ≡ TooLarge →
         estimate_of ByShares table ≡ TooLarge }
 {}

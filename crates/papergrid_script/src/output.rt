@@ -1,28 +1,27 @@
 //! The text that the program writes.
 
 ghost use Rattle.std.specs.Prelude.{◌≡◌, ◌∷◌, ◌++◌, [], IfOk, OnOk, codes, decimal};
-ghost use Rattle.papergrid_script.specs.Estimates.{OutOfTable, TooLarge};
+ghost use Rattle.papergrid_script.specs.Estimates.{OutOfTable, Sized, TooLarge};
 ghost use Rattle.papergrid_script.specs.Outputs.{estimate_text, number_line, spaced_places, certificate_line};
-ghost use Rattle.papergrid_script.specs.ForProofs.Sized.{sizes_seen};
-ghost use Rattle.papergrid_layout.specs.Certificates.{places_of};
+ghost use Rattle.papergrid_layout.specs.Certificates.{places_of, solutions_of};
 
-use crate::estimate::Sizes;
 use itoa::Buffer;
-use papergrid_values::Position;
+use papergrid_layout::Solved;
+use papergrid_values::{PerDirection, Position};
 use std::alloc::{AllocError, Global};
 
 /// The lines `widths`, `heights`, `total`, `witness widths` and `witness heights`.
-pub fn sizes_text(alloc: Global, sizes: &Sizes) -> Result<Vec<u8>, AllocError>
-    ensures { IfOk result (λ text. text.items ≡ estimate_text (sizes_seen sizes.now)) }
+pub fn sizes_text(alloc: Global, found: &PerDirection<Solved>) -> Result<Vec<u8>, AllocError>
+    ensures { IfOk result (λ text. text.items ≡ estimate_text (Sized (solutions_of found.now))) }
 {
     let mut text = Vec::new(alloc);
-    let certified = &sizes.certified;
-    push_line(&mut text, b"widths", certified.widths.as_slice())?;
-    push_line(&mut text, b"heights", certified.heights.as_slice())?;
-    let totals = [sizes.total_width, sizes.total_height];
+    let PerDirection { columns, rows } = found;
+    push_line(&mut text, b"widths", columns.sizes.as_slice())?;
+    push_line(&mut text, b"heights", rows.sizes.as_slice())?;
+    let totals = [columns.total, rows.total];
     push_line(&mut text, b"total", totals.as_slice())?;
-    push_certificate(&mut text, b"witness widths", &certified.width_witness)?;
-    push_certificate(&mut text, b"witness heights", &certified.height_witness)?;
+    push_certificate(&mut text, b"witness widths", &columns.certificate)?;
+    push_certificate(&mut text, b"witness heights", &rows.certificate)?;
     Ok(text)
 }
 
@@ -45,13 +44,13 @@ fn push_line(text: &mut Vec<u8>, word: &[u8], numbers: &[usize]) -> Result<(), A
 fn push_certificate(
     text: &mut Vec<u8>,
     word: &[u8],
-    witness: &Option<Vec<Position>>,
+    certificate: &Option<Vec<Position>>,
 ) -> Result<(), AllocError>
     ensures { OnOk result (text.new.items ≡ text.old.items ++ certificate_line word.now
-        (places_of witness.now)) }
+        (places_of certificate.now)) }
 {
     text.extend_from_slice(word)?;
-    match witness {
+    match certificate {
         None => text.extend_from_slice(b" none")?,
         Some(places) => push_places(text, places.as_slice())?,
     }

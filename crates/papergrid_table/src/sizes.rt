@@ -3,8 +3,8 @@
 use bumpalo::Bump;
 use papergrid_config::SpannedConfig;
 use papergrid_csv::{Request, Rows, RowsError, cut, read_rows};
-use papergrid_layout::LayoutError;
-use papergrid_layout::certificates::{self, Certified};
+use papergrid_layout::certificates::certify;
+use papergrid_layout::{LayoutError, PerDirection, Solved};
 use papergrid_text::VecRecords;
 use papergrid_values::{Entity, Position};
 use std::alloc::{AllocError, Global};
@@ -14,7 +14,7 @@ pub fn certified(
     alloc: Global,
     request: &Request,
     input: &[u8],
-) -> Result<Option<Certified>, AllocError> {
+) -> Result<Option<PerDirection<Solved>>, AllocError> {
     let texts = Bump::new(alloc);
     let Some(rows) = shown_rows(alloc, &texts, request, input)? else {
         return Ok(None);
@@ -23,8 +23,8 @@ pub fn certified(
     let count = rows.len();
     let config = configuration(alloc, request, count)?;
     let records = VecRecords::with_size(rows, count, columns);
-    match certificates::certify(alloc, &records, &config, request.sizing) {
-        Ok(certified) => Ok(Some(certified)),
+    match certify(alloc, &records, &config, request.sizing) {
+        Ok(found) => Ok(Some(found)),
         Err(LayoutError::Memory(error)) => Err(error),
         Err(_) => Ok(None),
     }

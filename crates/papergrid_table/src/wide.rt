@@ -35,7 +35,7 @@ pub fn too_wide(
     let Some(found) = certified(alloc, request, input)? else {
         return Ok(text);
     };
-    if let Some(witness) = &found.width_witness {
+    if let Some(witness) = &found.columns.certificate {
         name_cells(
             alloc,
             &mut text,
@@ -45,7 +45,7 @@ pub fn too_wide(
         )?;
     }
     if request.spans.is_empty() {
-        if let Some(columns) = cut_for(request, found.widths.as_slice(), width, most) {
+        if let Some(columns) = cut_for(request, found.columns.sizes.as_slice(), width, most) {
             write!(text, "; --cut {columns} would fit")?;
         }
     }

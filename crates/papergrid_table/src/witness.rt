@@ -14,8 +14,8 @@ pub fn witness_of_text(
 ) -> Result<String, AllocError> {
     let mut lines = String::new(alloc);
     if let Some(found) = certified(alloc, request, input)? {
-        push_witness(&mut lines, "witness widths", &found.width_witness)?;
-        push_witness(&mut lines, "\nwitness heights", &found.height_witness)?;
+        push_witness(&mut lines, "witness widths", &found.columns.certificate)?;
+        push_witness(&mut lines, "\nwitness heights", &found.rows.certificate)?;
     }
     Ok(lines)
 }

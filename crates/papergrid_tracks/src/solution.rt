@@ -19,7 +19,7 @@ use std::alloc::Global;
 /// What a solver finds of a table along a direction: the sizes of the tracks, their total with all
 /// lines, and, where it is asked for, the certificate: the positions of the cells that show that no
 /// sizes with room for each cell have a smaller total, by the starts of their ranges.
-#[derive(Drop)]
+#[derive(Debug, Drop)]
 pub struct Solved {
     pub sizes: Vec<usize>,
     pub total: usize,

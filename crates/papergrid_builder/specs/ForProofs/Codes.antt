@@ -4,20 +4,26 @@ use Rattle.std.specs.Coded.{Coded, code_by, coded×, coded_bool, coded_list, cod
 use Rattle.papergrid_values.specs.declared.position.Position.{Position}
 use Rattle.papergrid_config.specs.declared.setting.Setting.{Setting}
 use Rattle.papergrid_config.specs.declared.spanned.SpannedConfig.{SpannedConfig}
-use Rattle.papergrid_layout.specs.Tables.{TableParts}
-use Rattle.papergrid_layout.specs.ForProofs.Tables.{parts_code}
+use Rattle.papergrid_layout.specs.Certificates.{Solution}
 use Rattle.papergrid_builder.specs.Told.{FoundTable, ToldTable}
 
 -- a code of positions, and so of the cells of a certificate
 abbrev pub places_code : Coded (Option (List Position))
 places_code = coded_option (coded_list (code_by (ℕ × ℕ) (coded× coded_ℕ coded_ℕ) (λ p. (p.row, p.col)) (λ p. record { row = p.0; col = p.1 }) (λ _. refl)))
 
+-- a code of what was found along a direction
+abbrev pub solution_code : Coded Solution
+solution_code =
+    code_by (List ℕ × (ℕ × Option (List Position))) (coded× (coded_list coded_ℕ) (coded× coded_ℕ places_code))
+    (λ s. (s.sizes, (s.total, s.certificate)))
+    (λ p. record { sizes = p.0; total = p.1.0; certificate = p.1.1 }) (λ _. refl)
+
 -- a code of what was found, by one of configurations
 abbrev pub found_code : Coded SpannedConfig → Coded FoundTable
 found_code c =
-    code_by (TableParts × (Option (List Position) × Option (List Position))) (coded× (parts_code c) (coded× places_code places_code))
-    (λ f. (f.parts, (f.width_certificate, f.height_certificate)))
-    (λ p. record { parts = p.0; width_certificate = p.1.0; height_certificate = p.1.1 }) (λ _. refl)
+    code_by (SpannedConfig × (Solution × Solution)) (coded× c (coded× solution_code solution_code))
+    (λ f. (f.config, (f.along.columns, f.along.rows)))
+    (λ p. record { config = p.0; along = record { columns = p.1.0; rows = p.1.1 } }) (λ _. refl)
 
 -- a code of what is told, by one of settings and one of configurations
 abbrev pub told_code : Coded Setting → Coded SpannedConfig → Coded ToldTable

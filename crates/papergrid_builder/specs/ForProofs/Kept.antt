@@ -1,26 +1,22 @@
 -- What a builder keeps.
 use Rattle.std.specs.Prelude.{ℕ, Bool, List, Option, IfSome, length, option_map}
 use Rattle.papergrid_config.specs.declared.setting.Setting.{Setting}
-use Rattle.papergrid_layout.specs.Certificates.{places_of}
+use Rattle.papergrid_layout.specs.Certificates.{solutions_of}
 use Rattle.papergrid_layout.specs.Tables.{TableParts}
 use Rattle.papergrid_layout.specs.declared.sizing.Sizing.{Sizing}
 use Rattle.papergrid_json.specs.Documents.{AreInRange}
-use Rattle.papergrid_builder.specs.Layouts.{IsFoundTable}
+use Rattle.papergrid_builder.specs.Layouts.{IsFoundTable, parts_found}
 use Rattle.papergrid_builder.specs.Told.{FoundTable, ToldTable}
 use Rattle.papergrid_builder.specs.ForProofs.Texts.{AreStarts, rows_told}
 use Rattle.papergrid_builder.specs.declared.found.Found.{Found}
 
--- the sizes that were found, with their configuration
-abbrev pub found_parts : Found → TableParts
-found_parts found = record { config = found.config; widths = found.certified.widths.items; heights = found.certified.heights.items }
-
 -- what was found
 abbrev pub found_of : Found → FoundTable
-found_of found = record {
-  parts = found_parts found;
-  width_certificate = places_of found.certified.width_witness;
-  height_certificate = places_of found.certified.height_witness;
-}
+found_of found = record { config = found.config; along = solutions_of found.along }
+
+-- the configuration with the sizes that were found
+abbrev pub found_parts : Found → TableParts
+found_parts found = parts_found (found_of found)
 
 -- what is told of a table that is kept so
 abbrev pub told_by : List Setting → List (List ℕ) → List ℕ → Bool → Option Found → List ℕ → ToldTable

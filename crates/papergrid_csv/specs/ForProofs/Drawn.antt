@@ -1,13 +1,11 @@
 -- What calls that draw the table of a CSV text do to a writer.
 use Rattle.std.specs.Prelude.{◌≡◌, ◌≢◌, ◌⊎◌, ℕ, Bool, false, List, [], Option, None, Some, Result, Ok, Err, length}
-use Rattle.std.specs.Io.KnownBytes.{Appends}
 use Rattle.papergrid_values.specs.declared.direction.Direction.TheVariants.{Columns}
 use Rattle.papergrid_values.specs.declared.position.Position.{Position}
 use Rattle.papergrid_config.specs.declared.setting.Setting.{Setting}
 use Rattle.papergrid_config.specs.declared.spanned.SpannedConfig.{SpannedConfig}
 use Rattle.papergrid_layout.specs.Places.{total_along}
-use Rattle.papergrid_grid.specs.ForProofs.Drawn.{HasBegun, IsSteady}
-use Rattle.papergrid_draw.specs.ForProofs.Sinks.{HasEnded}
+use Rattle.papergrid_draw.specs.Sinks.{HasBegun, HasEnded, IsRefusal, IsSteady, IsTaken}
 use Rattle.papergrid_draw.specs.Drawings.{Drawing, layout_of}
 use Rattle.papergrid_draw.specs.Faults.{IsDrawFault}
 use Rattle.papergrid_draw.specs.Tiles.{IsFirstPosition, IsTiled}
@@ -16,7 +14,7 @@ use Rattle.papergrid_draw.specs.declared.error.DrawError.TheVariants as draw_err
 use Rattle.papergrid_grid.specs.Crossings.{FitCrossings, IsFitFault}
 use Rattle.papergrid_grid.specs.Lined.{lined}
 use Rattle.papergrid_grid.specs.declared.crossings.Junctions.{Junctions}
-use Rattle.papergrid_grid.specs.Pictures.{IsDrawingWith, IsFaultWith, IsRefusal}
+use Rattle.papergrid_grid.specs.Pictures.{IsDrawingWith, IsFaultWith}
 use Rattle.papergrid_script.specs.declared.reading.RunFault.{RunFault}
 use Rattle.papergrid_script.specs.declared.reading.RunFault.TheVariants as run_faults
 use Rattle.papergrid_csv.specs.Judging.{IsFieldHidden, first_missing}
@@ -101,16 +99,14 @@ IsFitFaultOf (Some junctions) config shape e = IsFitFault config shape e
 module _ {W : Type 0} (contents : W → Option (List ℕ)) (has_failed has_stalled : W → Bool) where
   -- all of a text was taken; where nothing is drawn the writer is as it was
   pub record IsWrittenAs (end : CsvEnd) (old new : W) (text : List ℕ) : Type 0 where
-    pub taken : Appends (contents old) (contents new) text
-    pub works : has_failed new ≡ has_failed old
-    pub moves : has_stalled new ≡ has_stalled old
+    pub taken : IsTaken contents has_failed has_stalled old text new
     pub silent : (end ≡ Drawn → ⊥) → new ≡ old
 
   module _ (IsOutput : CsvEnd → List ℕ → Type 0) where
     -- a run that broke off
     pub record IsCsvBrokenOff (old new : W) (fault : RunFault) : Type 0 where
       pub not_read : fault ≢ run_faults.Read
-      pub beginning : (new ≡ old) ⊎ ((output : List ℕ) × IsOutput Drawn output × HasBegun contents has_failed has_stalled old new output)
+      pub beginning : (new ≡ old) ⊎ ((output : List ℕ) × IsOutput Drawn output × HasBegun contents has_failed has_stalled old output new)
       pub write : fault ≡ run_faults.Write → HasEnded contents has_failed has_stalled old new
       pub steady : (fault ≡ run_faults.Write) ⊎ IsSteady contents has_failed has_stalled old new
 

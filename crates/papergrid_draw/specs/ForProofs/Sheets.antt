@@ -42,18 +42,18 @@ begun_after begun (line ∷ lines) = true
 -- by the relations of texts that a writer takes and of one that breaks off
 module _ {W : Type 0} (takes breaks : W → List ℕ → W → Type 0) where
   -- not all of the bytes were taken: an allocation failed, or a text broke off
-  abbrev pub IsCutOff : W → W → List ℕ → DrawError → Type 0
-  IsCutOff old new bytes (Memory e) = TakesBeginning takes old bytes new
-  IsCutOff old new bytes Write = BreaksOff takes breaks old bytes new
-  IsCutOff old new bytes (OutOfTable p) = ⊥
-  IsCutOff old new bytes (NotTiled p) = ⊥
-  IsCutOff old new bytes (NoRoom p) = ⊥
-  IsCutOff old new bytes TooLarge = ⊥
+  abbrev pub IsCutShort : W → W → List ℕ → DrawError → Type 0
+  IsCutShort old new bytes (Memory e) = TakesBeginning takes old bytes new
+  IsCutShort old new bytes Write = BreaksOff takes breaks old bytes new
+  IsCutShort old new bytes (OutOfTable p) = ⊥
+  IsCutShort old new bytes (NotTiled p) = ⊥
+  IsCutShort old new bytes (NoRoom p) = ⊥
+  IsCutShort old new bytes TooLarge = ⊥
 
   -- all of them were, or not
   abbrev pub Writes : {A : Type 0} → W → W → List ℕ → Result A DrawError → Type 0
   Writes old new bytes (Ok x) = WritesInCalls takes old bytes new
-  Writes old new bytes (Err error) = IsCutOff old new bytes error
+  Writes old new bytes (Err error) = IsCutShort old new bytes error
 
   -- lines are written, before which others may stand
   pub record WritesLines {A : Type 0} (old new : W) (begun after : Bool) (lines : List (List ℕ))

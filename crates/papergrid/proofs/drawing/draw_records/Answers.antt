@@ -36,5 +36,4 @@ returns g c =
     drawn-so g.W.Sink.contents g.W.Sink.has_failed g.W.Sink.has_stalled c.args.config.now (column_count records) (texts_held g.T.AsStr.text records) c.args.sizing printed _
     (drawing-with (λ row. map g.T.AsStr.text row.items) c.in_ok-table.table c.args.config.now (column_count records) c.args.sizing c.as_slice.result.now (rows_held records).items
     told.2.0 (c.as_slice.ensures.value ∙ ap (λ rows. rows.items) c.deref.ensures) sized)
-    c.args.sink.now c.draw_cells.new.sink c.draw_cells.result c.draw_cells.ensures.picture c.draw_cells.ensures.works c.draw_cells.ensures.moves c.draw_cells.ensures.fault
-    c.draw_cells.ensures.nothing c.draw_cells.ensures.beginning c.draw_cells.ensures.write c.draw_cells.ensures.steady
+    c.args.sink.now c.draw_cells.new.sink c.draw_cells.result c.draw_cells.ensures.picture c.draw_cells.ensures.fault c.draw_cells.ensures.left

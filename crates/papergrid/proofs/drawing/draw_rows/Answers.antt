@@ -46,5 +46,4 @@ returns g c =
     drawn-so g.W.Sink.contents g.W.Sink.has_failed g.W.Sink.has_stalled c.args.config.now c.args.columns texts c.args.sizing lined _
     (drawing-with (λ row. row_texts_of row.now) c.in_ok-table.table c.args.config.now c.args.columns c.args.sizing c.args.rows.now c.args.rows.now
     told.2.0 refl sized)
-    c.args.writer.now c.draw_lines.new.sink c.draw_lines.result c.draw_lines.ensures.picture c.draw_lines.ensures.works c.draw_lines.ensures.moves c.draw_lines.ensures.fault
-    c.draw_lines.ensures.nothing c.draw_lines.ensures.beginning c.draw_lines.ensures.write c.draw_lines.ensures.steady
+    c.args.writer.now c.draw_lines.new.sink c.draw_lines.result c.draw_lines.ensures.picture c.draw_lines.ensures.fault c.draw_lines.ensures.left

@@ -38,7 +38,7 @@ returns-in-Ok-clause-ok c =
     let told = c.in_ok-table.ensures in
     let is = is-drawing c.args.config.now c.args.sizing c.args.rows.now c.in_ok-table.table _ told.0 columns (told.1 ∙ ap (map (λ row. row.now)) rows) told.2 in
     let d = drawing-lent c.args.config.now c.args.sizing c.args.rows.now c.in_ok-table.table in
-    (d, is, c.in-Ok.ensures.picture ∙ ap (λ before. before ++ lined d) c.new-sink.ensures)
+    (d, is, c.in-Ok.ensures.picture.bytes_are ∙ ap (λ before. before ++ lined d) c.new-sink.ensures)
 
 pub returns-in-Err-OutOfTable-clause-err : goal.returns-in-Err-OutOfTable-clause-err
 returns-in-Err-OutOfTable-clause-err c =

@@ -12,7 +12,7 @@ pub returns-clause-ok : goal.returns-clause-ok
 returns-clause-ok c =
     let lent : rows_lent c.deref-2.result.now ≡ rows_told c.args.cells.now c.args.starts.now =
     ap rows_lent c.deref-2.ensures.value ∙ c.in_ok-rows.ensures ∙ ap (λ cells. rows_told cells c.args.starts.now) (ap texts_lent c.deref.ensures.value ∙ c.in_ok-texts.ensures) in
-    subst (λ rows. IfOk c.found_in.result (λ found. IsFoundTable c.args.settings.now.items rows c.args.sizing (found_of found.0))) lent c.found_in.ensures.ok
+    subst (λ rows. IfOk c.found_in.result (λ found. IsFoundTable c.args.settings.now.items rows c.args.sizing (found_of found))) lent c.found_in.ensures.ok
 
 pub returns-clause-err : goal.returns-clause-err
 returns-clause-err c =

@@ -6,23 +6,18 @@ use Rattle.papergrid_builder.specs.ForProofs.Texts.{rows_lent}
 use Rattle.papergrid_builder.proofs.DrawLemmas.{not-found}
 use Rattle.papergrid_builder.proofs.found.found_in.Goals as goal
 
-pub returns-in_err-certified-clause-err : goal.returns-in_err-certified-clause-err
-returns-in_err-certified-clause-err c =
-    let p = err_from_is_err_and c.from_residual-in_err-certified.result c.from_residual-in_err-certified.ensures.1 in
+pub returns-in_err-along-clause-err : goal.returns-in_err-along-clause-err
+returns-in_err-along-clause-err c =
+    let p = err_from_is_err_and c.from_residual-in_err-along.result c.from_residual-in_err-along.ensures.1 in
     rw (p.1, p.2)
-    (not-found c.in_ok-config.config (rows_lent c.args.rows.now) c.args.sizing c.args.settings.now.items c.in_ok-config.ensures c.in_err-certified.field-0.0 c.in_err-certified.ensures.err)
-
-pub totals-requires : goal.totals-requires
-totals-requires c =
-    let rows = rows_lent c.args.rows.now in
-    chosen-fit c.args.sizing c.in_ok-config.config text_measure (longest rows) rows _ _ c.in_ok-certified.ensures.ok.sizes
+    (not-found c.in_ok-config.config (rows_lent c.args.rows.now) c.args.sizing c.args.settings.now.items c.in_ok-config.ensures c.in_err-along.field-0.0 c.in_err-along.ensures.err)
 
 pub returns-clause-ok : goal.returns-clause-ok
 returns-clause-ok c =
     let rows = rows_lent c.args.rows.now in
-    let found = c.in_ok-certified.ensures.ok in
+    let found = c.in_ok-along.ensures.ok in
     record {
       configured = c.in_ok-config.ensures;
       sized = found;
-      fit = chosen-fit c.args.sizing c.in_ok-config.config text_measure (longest rows) rows _ _ found.sizes;
+      fit = chosen-fit c.args.sizing c.in_ok-config.config text_measure (longest rows) rows _ _ (record { widths = found.widths.sizes; heights = found.heights.sizes });
     }

@@ -1,4 +1,4 @@
-use Rattle.std.proofs.Common.{Err, ap, map, refl, subst, sym}
+use Rattle.std.proofs.Common.{ap, map, refl, subst, sym}
 use Rattle.papergrid_config.specs.Grids.{spanned_grid}
 use Rattle.papergrid_draw.specs.Drawings.{Drawing, layout_of}
 use Rattle.papergrid_draw.specs.Tiles.{IsTileFault, IsTiled}
@@ -36,7 +36,7 @@ returns-in-Ok g c =
     let tiled : IsTiled (layout_of d) = c.in_default.ensures.ok (layout_of d) (ap spanned_grid (sym c.config.ensures)) (sym c.shape.ensures) in (
       lined d,
       (tiled, subst (IsNarrow c.args.request.now.max_width) c.width-width.ensures c.if-is_wide.ensures, refl),
-      record { taken = c.in-Ok.ensures.picture; works = c.in-Ok.ensures.works; moves = c.in-Ok.ensures.moves; silent = λ other. absurd (other refl) },
+      record { taken = c.in-Ok.ensures.picture; silent = λ other. absurd (other refl) },
     )
 
 pub returns-in-Err-draw_lines : goal.returns-in-Err-draw_lines
@@ -47,4 +47,4 @@ returns-in-Err-draw_lines g c =
     rw c.end_refused-in-Err-draw_lines.ensures
     (run-undrawn g.W.Sink.contents g.W.Sink.has_failed g.W.Sink.has_stalled (IsTableRun c.args.request.now.max_width d) c.args.writer.now c.draw_lines.new.sink (lined d)
     (tiled, subst (IsNarrow c.args.request.now.max_width) c.width-width.ensures c.if-is_wide.ensures, refl) c.in-Err-draw_lines.error
-    (λ named. (named, c.in-Err-draw_lines.ensures.fault, refl)) c.in-Err-draw_lines.ensures.nothing c.in-Err-draw_lines.ensures.beginning (λ same. c.in-Err-draw_lines.ensures.write (ap Err same)) c.in-Err-draw_lines.ensures.steady)
+    (λ named. (named, c.in-Err-draw_lines.ensures.fault, refl)) c.in-Err-draw_lines.ensures.left)

@@ -1,4 +1,4 @@
-use Rattle.std.proofs.Common.{Some, subst}
+use Rattle.std.proofs.Common.{Some, refl, subst}
 use Rattle.std.proofs.lemmas.Result.{err_from_is_err_and}
 use Rattle.papergrid_builder.specs.Layouts.{IsFoundTable, IsNoFoundTable}
 use Rattle.papergrid_builder.specs.Told.{ToldTable}
@@ -33,7 +33,7 @@ returns-clause-ok c =
     c.in_ok-found.ensures.ok in (
       found,
       subst (λ (t : ToldTable). IsFoundTable t.settings t.rows c.args.sizing found) c.self.view_is told,
-      c.in_ok-found.ensures.totals,
+      refl,
       λ i. record {
         settings = (c.self.view_is i).settings;
         rows = (c.self.view_is i).rows;

@@ -4,8 +4,7 @@ use Rattle.std.specs.Fmt.{WritesInCalls}
 use Rattle.std.proofs.lemmas.Result.{IfErr-weaker, err_from_is_err_and, on_ok_weaker}
 use Rattle.papergrid_draw.specs.Deliveries.{IsLeftOff}
 use Rattle.papergrid_draw.specs.Margins.{printed}
-use Rattle.papergrid_grid.specs.Compact.{IsCompactFault}
-use Rattle.papergrid_grid.specs.Sized.{texts_at}
+use Rattle.papergrid_grid.specs.Sized.{IsGridFault, texts_at}
 use Rattle.papergrid_grid.proofs.CompactLemmas.{drawn_compact, left_as_it_was, refused}
 use Rattle.papergrid_grid.proofs.GridLemmas.{at_exit, unless_memory}
 use Rattle.papergrid_grid.proofs.compact.CompactGrid.build.Goals as goal
@@ -34,7 +33,7 @@ returns-clause-fault g c =
     IfErr-weaker c.text_sized.result _ _ (λ e is. unless_memory e
     (drawn_compact g.R.Iter.Cell.AsStr.text (g.R.Records.tells grid.records) (g.R.Records.columns grid.records) grid.config
     (g.D.Dimension.width_of grid.dimension.now) g.C.Color.AsANSIStr.texts g.C.Colors.color_at grid.colors.now c.in_ok-table.table _ _
-    (λ d. IsCompactFault d e) c.in_ok-table.ensures.made count c.as_slice.ensures.value is))
+    (λ d. IsGridFault d e) c.in_ok-table.ensures.made count c.as_slice.ensures.value is))
     c.text_sized.ensures.fault
 
 pub returns-clause-picture : goal.returns-clause-picture

@@ -1,10 +1,9 @@
-use Rattle.std.proofs.Common.{◌≡◌, ℕ, arith, inr, length, take}
-use Rattle.std.specs.Io.KnownBytes.{Appends}
-use Rattle.std.proofs.lemmas.Result.{IfErr-weaker, err_from_is_err_and, on_err_weaker, on_ok_weaker}
+use Rattle.std.proofs.Common.{◌≡◌, arith, inr, length}
+use Rattle.std.proofs.lemmas.Result.{IfErr-weaker, err_from_is_err_and, on_ok_weaker}
 use Rattle.papergrid_draw.specs.Margins.{printed}
-use Rattle.papergrid_grid.specs.Compact.{IsCompactFault}
-use Rattle.papergrid_grid.specs.Sized.{texts_at}
-use Rattle.papergrid_grid.proofs.CompactLemmas.{drawn_compact, refused}
+use Rattle.papergrid_draw.specs.Sinks.{IsCutOff, IsTaken}
+use Rattle.papergrid_grid.specs.Sized.{IsGridFault, texts_at}
+use Rattle.papergrid_grid.proofs.CompactLemmas.{drawn_compact, refused, sink_as_it_was}
 use Rattle.papergrid_grid.proofs.GridLemmas.{at_exit, unless_memory}
 use Rattle.papergrid_grid.proofs.compact.CompactGrid.write_to.Goals as goal
 
@@ -23,7 +22,7 @@ returns-clause-fault g c =
     IfErr-weaker c.write_sized.result _ _ (λ e is. unless_memory e
     (drawn_compact g.R.Iter.Cell.AsStr.text (g.R.Records.tells grid.records) (g.R.Records.columns grid.records) grid.config
     (g.D.Dimension.width_of grid.dimension.now) g.C.Color.AsANSIStr.texts g.C.Colors.color_at grid.colors.now c.in_ok-table.table _ _
-    (λ d. IsCompactFault d e) c.in_ok-table.ensures.made count c.as_slice.ensures.value is))
+    (λ d. IsGridFault d e) c.in_ok-table.ensures.made count c.as_slice.ensures.value is))
     c.write_sized.ensures.fault
 
 pub returns-clause-picture : goal.returns-clause-picture
@@ -33,15 +32,24 @@ returns-clause-picture g c =
     on_ok_weaker c.write_sized.result (λ is.
     (drawn_compact g.R.Iter.Cell.AsStr.text (g.R.Records.tells grid.records) (g.R.Records.columns grid.records) grid.config
     (g.D.Dimension.width_of grid.dimension.now) g.C.Color.AsANSIStr.texts g.C.Colors.color_at grid.colors.now c.in_ok-table.table _ _
-    (λ d. Appends (g.W.Sink.contents c.args.sink.now) (g.W.Sink.contents c.write_sized.new.sink) (printed d)) c.in_ok-table.ensures.made count c.as_slice.ensures.value is))
+    (λ d. IsTaken g.W.Sink.contents g.W.Sink.has_failed g.W.Sink.has_stalled c.args.sink.now (printed d) c.write_sized.new.sink) c.in_ok-table.ensures.made count c.as_slice.ensures.value is))
     c.write_sized.ensures.picture
 
-pub returns-clause-beginning : goal.returns-clause-beginning
-returns-clause-beginning g c =
+pub returns-in_err-table-clause-left : goal.returns-in_err-table-clause-left
+returns-in_err-table-clause-left g c =
+    let grid = c.args.self in
+    at_exit c.from_residual.result _ _ (err_from_is_err_and c.from_residual.result c.from_residual.ensures.1)
+    (sink_as_it_was g.R.Iter.Cell.AsStr.text (g.R.Records.tells grid.records) (g.R.Records.columns grid.records) grid.config
+    (g.D.Dimension.width_of grid.dimension.now) g.W.Sink.contents g.W.Sink.has_failed g.W.Sink.has_stalled c.args.sink.now
+    (texts_at g.C.Color.AsANSIStr.texts g.C.Colors.color_at grid.colors.now)
+    c.in_err-table.field-0.0 c.in_err-table.ensures.fault)
+
+pub returns-clause-left : goal.returns-clause-left
+returns-clause-left g c =
     let grid = c.args.self in
     let count : c.len.result ≡ length c.in_ok-table.table.rows.items = omega arith in
-    on_err_weaker c.write_sized.result (λ is. inr
+    IfErr-weaker c.write_sized.result _ _ (λ e is. inr
     (drawn_compact g.R.Iter.Cell.AsStr.text (g.R.Records.tells grid.records) (g.R.Records.columns grid.records) grid.config
     (g.D.Dimension.width_of grid.dimension.now) g.C.Color.AsANSIStr.texts g.C.Colors.color_at grid.colors.now c.in_ok-table.table _ _
-    (λ d. (n : ℕ) × Appends (g.W.Sink.contents c.args.sink.now) (g.W.Sink.contents c.write_sized.new.sink) (take n (printed d))) c.in_ok-table.ensures.made count c.as_slice.ensures.value is))
-    c.write_sized.ensures.beginning
+    (λ d. IsCutOff g.W.Sink.contents g.W.Sink.has_failed g.W.Sink.has_stalled c.args.sink.now (printed d) c.write_sized.new.sink e) c.in_ok-table.ensures.made count c.as_slice.ensures.value is))
+    c.write_sized.ensures.left

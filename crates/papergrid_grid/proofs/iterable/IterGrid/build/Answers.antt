@@ -16,7 +16,7 @@ returns-clause-fault g c =
     IfErr-weaker c.text_sized.result _ _ (λ e is. unless_memory e (_, c.in_ok-rows.ensures, is))
     (drawn_texts g.R.Iter.Cell.AsStr.text g.C.Color.AsANSIStr.texts g.C.Colors.color_at grid.config.now
     (g.D.Dimension.width_of grid.dimension.now) (g.D.Dimension.height_of grid.dimension.now)
-    (λ parts d. IfErr c.text_sized.result (IsGridFault parts d))
+    (λ parts d. IfErr c.text_sized.result (IsGridFault d))
     _ _ _ _ _ grid.colors.now count c.count_columns-columns.ensures c.as_slice.ensures.value c.text_sized.ensures.fault)
 
 pub returns-clause-picture : goal.returns-clause-picture

@@ -1,7 +1,7 @@
-use Rattle.std.proofs.Common.{◌≡◌, IfErr, OnErr, OnOk, arith, inr, length, subst, sym, take, ℕ}
-use Rattle.std.specs.Io.KnownBytes.{Appends}
-use Rattle.std.proofs.lemmas.Result.{IfErr-weaker, on_err_weaker, on_ok_weaker}
+use Rattle.std.proofs.Common.{◌≡◌, IfErr, OnOk, arith, inr, length, subst, sym}
+use Rattle.std.proofs.lemmas.Result.{IfErr-weaker, on_ok_weaker}
 use Rattle.papergrid_draw.specs.Margins.{printed}
+use Rattle.papergrid_draw.specs.Sinks.{IsCutOff, IsTaken}
 use Rattle.papergrid_layout.specs.Tables.{HasSizes}
 use Rattle.papergrid_grid.specs.Sized.{IsGridFault}
 use Rattle.papergrid_grid.proofs.GridLemmas.{drawn_texts, sized_rows, unless_memory}
@@ -14,7 +14,7 @@ returns-clause-fault g c =
     IfErr-weaker c.write_sized.result _ _ (λ e is. unless_memory e (_, c.in_ok-rows.ensures, is))
     (drawn_texts g.R.Iter.Cell.AsStr.text g.C.Color.AsANSIStr.texts g.C.Colors.color_at grid.config.now
     (g.D.Dimension.width_of grid.dimension.now) (g.D.Dimension.height_of grid.dimension.now)
-    (λ parts d. IfErr c.write_sized.result (IsGridFault parts d))
+    (λ parts d. IfErr c.write_sized.result (IsGridFault d))
     _ _ _ _ _ grid.colors.now count c.count_columns-columns.ensures c.as_slice.ensures.value c.write_sized.ensures.fault)
 
 pub returns-clause-picture : goal.returns-clause-picture
@@ -24,18 +24,18 @@ returns-clause-picture g c =
     on_ok_weaker c.write_sized.result (λ is. (_, c.in_ok-rows.ensures, is))
     (drawn_texts g.R.Iter.Cell.AsStr.text g.C.Color.AsANSIStr.texts g.C.Colors.color_at grid.config.now
     (g.D.Dimension.width_of grid.dimension.now) (g.D.Dimension.height_of grid.dimension.now)
-    (λ parts d. OnOk c.write_sized.result (Appends (g.W.Sink.contents c.args.sink.now) (g.W.Sink.contents c.write_sized.new.sink) (printed d)))
+    (λ parts d. OnOk c.write_sized.result (IsTaken g.W.Sink.contents g.W.Sink.has_failed g.W.Sink.has_stalled c.args.sink.now (printed d) c.write_sized.new.sink))
     _ _ _ _ _ grid.colors.now count c.count_columns-columns.ensures c.as_slice.ensures.value c.write_sized.ensures.picture)
 
-pub returns-clause-beginning : goal.returns-clause-beginning
-returns-clause-beginning g c =
+pub returns-clause-left : goal.returns-clause-left
+returns-clause-left g c =
     let grid = c.args.self in
     let count : c.len.result ≡ length c.in_ok-rows.rows.items = omega arith in
-    on_err_weaker c.write_sized.result (λ is. inr (_, c.in_ok-rows.ensures, is))
+    IfErr-weaker c.write_sized.result _ _ (λ e is. inr (_, c.in_ok-rows.ensures, is))
     (drawn_texts g.R.Iter.Cell.AsStr.text g.C.Color.AsANSIStr.texts g.C.Colors.color_at grid.config.now
     (g.D.Dimension.width_of grid.dimension.now) (g.D.Dimension.height_of grid.dimension.now)
-    (λ parts d. OnErr c.write_sized.result ((n : ℕ) × Appends (g.W.Sink.contents c.args.sink.now) (g.W.Sink.contents c.write_sized.new.sink) (take n (printed d))))
-    _ _ _ _ _ grid.colors.now count c.count_columns-columns.ensures c.as_slice.ensures.value c.write_sized.ensures.beginning)
+    (λ parts d. IfErr c.write_sized.result (IsCutOff g.W.Sink.contents g.W.Sink.has_failed g.W.Sink.has_stalled c.args.sink.now (printed d) c.write_sized.new.sink))
+    _ _ _ _ _ grid.colors.now count c.count_columns-columns.ensures c.as_slice.ensures.value c.write_sized.ensures.left)
 
 pub write_sized-requires-clause-rows : goal.write_sized-requires-clause-rows
 write_sized-requires-clause-rows g c =

@@ -12,7 +12,7 @@ returns-clause-fault g c =
     let grid = c.args.self.now in
     drawn_same g.T.Cell.lines g.C.Color.AsANSIStr.texts g.C.Colors.color_at grid.config.now
     (g.D.Dimension.width_of grid.dimension.now) (g.D.Dimension.height_of grid.dimension.now)
-    (λ parts d. IfErr c.text_sized.result (IsGridFault parts d))
+    (λ parts d. IfErr c.text_sized.result (IsGridFault d))
     _ _ _ _ _ _ c.shape.ensures c.cells.ensures.rows c.cells.ensures.colors c.text_sized.ensures.fault
 
 pub returns-clause-picture : goal.returns-clause-picture

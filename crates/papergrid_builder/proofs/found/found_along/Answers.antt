@@ -4,7 +4,7 @@ use Rattle.papergrid_text.proofs.RowSteps.{told_by}
 use Rattle.papergrid_grid.proofs.PictureLemmas.{unless-also}
 use Rattle.papergrid_builder.specs.ForProofs.Texts.{rows_lent}
 use Rattle.papergrid_builder.proofs.DrawLemmas.{found-told, no-sizes, unfound-unsized}
-use Rattle.papergrid_builder.proofs.found.certified_by.Goals as goal
+use Rattle.papergrid_builder.proofs.found.found_along.Goals as goal
 
 pub returns-in_err-certify-clause-err : goal.returns-in_err-certify-clause-err
 returns-in_err-certify-clause-err c =

@@ -1,0 +1,52 @@
+-- What a sink took of a text that was drawn to it, by what it tells of itself.
+use Rattle.std.specs.Prelude.{◌≡◌, ◌⊎◌, ⊤, ℕ, Bool, false, true, List, Option, Result, Ok, Err, take}
+use Rattle.std.specs.Io.KnownBytes.{Appends}
+use Rattle.papergrid_draw.specs.Drawings.{Drawing}
+use Rattle.papergrid_draw.specs.declared.error.DrawError.{DrawError}
+use Rattle.papergrid_draw.specs.declared.error.DrawError.TheVariants.{Memory, Write}
+
+-- a refusal of the table itself
+abbrev pub IsRefusal : DrawError → Type 0
+IsRefusal (Memory e) = ⊥
+IsRefusal Write = ⊥
+IsRefusal e = ⊤
+
+module _ {W : Type 0} (contents : W → Option (List ℕ)) (has_failed has_stalled : W → Bool) where
+  -- all the bytes were taken, and no write failed or took nothing
+  pub record IsTaken (old : W) (bytes : List ℕ) (new : W) : Type 0 where
+    pub bytes_are : Appends (contents old) (contents new) bytes
+    pub works : has_failed new ≡ has_failed old
+    pub moves : has_stalled new ≡ has_stalled old
+
+  -- a beginning of them was taken
+  abbrev pub HasBegun : W → List ℕ → W → Type 0
+  HasBegun old bytes new = (n : ℕ) × Appends (contents old) (contents new) (take n bytes)
+
+  -- what can be known of a sink that did not take all
+  abbrev pub HasEnded : W → W → Type 0
+  HasEnded old new = (has_failed new ≡ true) ⊎ (has_stalled old ≡ false → has_stalled new ≡ true)
+
+  -- no write failed or took nothing
+  abbrev pub IsSteady : W → W → Type 0
+  IsSteady old new = (has_failed new ≡ has_failed old) × (has_stalled new ≡ has_stalled old)
+
+  -- the sink after an error: as it was where the table is refused, else it took a beginning of the bytes
+  pub record IsCutOff (old : W) (bytes : List ℕ) (new : W) (e : DrawError) : Type 0 where
+    pub nothing : IsRefusal e → new ≡ old
+    pub beginning : HasBegun old bytes new
+    pub write : e ≡ Write → HasEnded old new
+    pub steady : (e ≡ Write) ⊎ IsSteady old new
+
+  module _ (IsDrawn : Drawing → Type 0) (IsFault : DrawError → Type 0) (text_of : Drawing → List ℕ) where
+    -- the same where there may be no drawing yet, and why there is none
+    pub record IsUndrawn (old new : W) (e : DrawError) : Type 0 where
+      pub fault : IsRefusal e → IsFault e
+      pub nothing : IsRefusal e → new ≡ old
+      pub beginning : (new ≡ old) ⊎ ((d : Drawing) × IsDrawn d × HasBegun old (text_of d) new)
+      pub write : e ≡ Write → HasEnded old new
+      pub steady : (e ≡ Write) ⊎ IsSteady old new
+
+    -- the text of such a drawing was taken, or why it was not
+    abbrev pub WritesPicture : {A : Type 0} → W → W → Result A DrawError → Type 0
+    WritesPicture old new (Ok x) = (d : Drawing) × IsDrawn d × IsTaken old (text_of d) new
+    WritesPicture old new (Err e) = IsUndrawn old new e

@@ -1,2 +1,0 @@
--- What no contract of a public call reaches: only contracts of functions below them and proofs speak of it.
-pub mod Drawn
