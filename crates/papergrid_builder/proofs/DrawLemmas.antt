@@ -1,5 +1,5 @@
 -- The sizes and the picture of rows of texts that are lent, by what is found of records of them.
-use Rattle.std.proofs.Common.{Bor, Global, Vec, ◌≡◌, ℕ, List, None, Result, Ok, Err, IfErr, IfOk, map, refl, subst}
+use Rattle.std.proofs.Common.{Bor, Global, Vec, ◌≡◌, ℕ, List, None, Result, Ok, Err, IfErr, IfOk, length, map, refl, subst, sym}
 use Rattle.papergrid_values.specs.declared.direction.Direction.{Direction}
 use Rattle.papergrid_values.specs.declared.per_direction.PerDirection.{PerDirection}
 use Rattle.papergrid_values.specs.declared.direction.Direction.TheVariants.{Columns, Rows}
@@ -7,10 +7,15 @@ use Rattle.papergrid_config.specs.Grids.{spanned_grid}
 use Rattle.papergrid_config.specs.declared.setting.Setting.{Setting}
 use Rattle.papergrid_config.specs.declared.spanned.SpannedConfig.{SpannedConfig}
 use Rattle.papergrid_walk.specs.Cells.{problem_of}
-use Rattle.papergrid_layout.specs.Answers.{AreTooLargeBy, HoldAlong, IsBothRefusedWhere, UnlessMemoryError}
+use Rattle.papergrid_layout.specs.Answers.{AreBothLeast, AreBothSizes, AreSizesBy, AreTooLargeBy, HoldAlong, IsBothRefusedWhere, UnlessMemoryError}
 use Rattle.papergrid_layout.specs.Certificates.{IsCertifiedBy, IsSolutionBy, solution_of}
-use Rattle.papergrid_layout.specs.Tables.{AreNoSizesBySizing, AreSizesBySizing, IsTableOf, TableParts}
+use Rattle.papergrid_layout.specs.Tables.{AreNoSizesBySizing, AreSizesBySizing, IsTableOf, TableParts, view_of}
 use Rattle.papergrid_layout.specs.declared.sizing.Sizing.{Sizing}
+use Rattle.papergrid_layout.specs.declared.sizing.Sizing.TheVariants.{ByShares, Least}
+use Rattle.papergrid_layout.specs.Places.{sized_table, total_along}
+use Rattle.papergrid_layout.proofs.PlaceLaws.{least-totals, totals}
+use Rattle.papergrid_maps.specs.Grids.{Grid}
+use Rattle.papergrid_tracks.specs.Problem.{Problem}
 use Rattle.papergrid_layout.proofs.Told.{problem_told}
 use Rattle.papergrid_text.proofs.RowSteps.{told_by}
 use Rattle.papergrid_tracks.specs.declared.error.LayoutError.{LayoutError}
@@ -24,9 +29,9 @@ use Rattle.papergrid_config.specs.Laws.{IsConfiguredBy}
 use Rattle.papergrid_grid.specs.Pictures.{IsDrawingWith, Unsized}
 use Rattle.papergrid_grid.proofs.PictureLemmas.{drawing-with, no-sizes-seen, sizes-seen}
 use Rattle.papergrid_builder.specs.Errors.{layout_refusal}
-use Rattle.papergrid_builder.specs.Layouts.{IsNoFoundTable, AreFoundSizes}
+use Rattle.papergrid_builder.specs.Layouts.{AreFoundSizes, IsNoFoundTable, parts_found, totals_of}
 use Rattle.papergrid_builder.specs.Pictures.{IsDrawingOf, IsNotDrawn}
-use Rattle.papergrid_builder.specs.Told.{longest}
+use Rattle.papergrid_builder.specs.Told.{FoundTable, longest}
 use Rattle.papergrid_builder.specs.ForProofs.Kept.{found_of}
 use Rattle.papergrid_builder.specs.ForProofs.Texts.{rows_lent, texts_lent}
 use Rattle.papergrid_builder.specs.ForProofs.Sizes.{IsPictureRefused, IsUnfound}
@@ -105,3 +110,43 @@ module _ (config : SpannedConfig) (rows : List (List (List ℕ))) (sizing : Sizi
     pub undrawn-told : (result : Result (Vec ℕ Global) BuilderError) → IfErr result (IsPictureRefused config rows sizing) → IfErr result (IsNotDrawn settings rows sizing)
     undrawn-told (Ok picture) undrawn = tt
     undrawn-told (Err e) undrawn = not-drawn e undrawn
+
+-- ---- totals
+
+-- there are as many sizes as tracks
+counted : (sizing : Sizing) (problem : Problem) (sizes : List ℕ) → AreSizesBy sizing problem sizes → length sizes ≡ problem.count
+counted ByShares problem sizes are = are.fits.one_each
+counted Least problem sizes are = are.least.fits.one_each
+
+-- the totals that are found are those of the table with the sizes that are found
+module _ (rows : List (List (List ℕ))) (found : FoundTable) where
+  abbrev grid : Grid
+  grid = spanned_grid found.config
+
+  abbrev told_total : Direction → ℕ
+  told_total direction = total_along (sized_table grid found.along.columns.sizes found.along.rows.sizes (length rows, longest rows)) direction
+
+  by-sizing : (sizing : Sizing) → AreFoundSizes rows sizing found → (found.along.columns.total ≡ told_total Columns) × (found.along.rows.total ≡ told_total Rows)
+  by-sizing ByShares are =
+      let sizes : AreBothSizes grid text_measure (longest rows) rows found.along.columns.sizes found.along.rows.sizes = record { widths = are.widths.sizes; heights = are.heights.sizes } in
+      let is = totals grid text_measure (longest rows) rows found.along.columns.sizes found.along.rows.sizes sizes in (
+        (is Columns found.along.columns.total).0 (record { sizes = found.along.columns.sizes; are_sizes = are.widths.sizes; adds_up = are.widths.total }),
+        (is Rows found.along.rows.total).0 (record { sizes = found.along.rows.sizes; are_sizes = are.heights.sizes; adds_up = are.heights.total }),
+      )
+  by-sizing Least are =
+      let sizes : AreBothLeast grid text_measure (longest rows) rows found.along.columns.sizes found.along.rows.sizes = record { widths = are.widths.sizes; heights = are.heights.sizes } in
+      let is = least-totals grid text_measure (longest rows) rows found.along.columns.sizes found.along.rows.sizes sizes in (
+        (is Columns found.along.columns.total).0 (record { sizes = found.along.columns.sizes; are_sizes = are.widths.sizes; adds_up = are.widths.total }),
+        (is Rows found.along.rows.total).0 (record { sizes = found.along.rows.sizes; are_sizes = are.heights.sizes; adds_up = are.heights.total }),
+      )
+
+  pub totals-found : (sizing : Sizing) → AreFoundSizes rows sizing found →
+      totals_of found ≡ (total_along (view_of (parts_found found)) Columns, total_along (view_of (parts_found found)) Rows)
+  totals-found sizing are =
+      let both = by-sizing sizing are in
+      let wide = counted sizing (problem_of grid text_measure (longest rows) rows Columns) found.along.columns.sizes are.widths.sizes in
+      let high = counted sizing (problem_of grid text_measure (longest rows) rows Rows) found.along.rows.sizes are.heights.sizes in
+      subst (λ shape. totals_of found ≡ (
+        total_along (sized_table grid found.along.columns.sizes found.along.rows.sizes shape) Columns,
+        total_along (sized_table grid found.along.columns.sizes found.along.rows.sizes shape) Rows,
+      )) (λ k. (sym high k, sym wide k)) (λ i. (both.0 i, both.1 i))

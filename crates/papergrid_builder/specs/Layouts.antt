@@ -27,11 +27,16 @@ AreFoundSizes rows sizing found = AreSolutionsBy (spanned_grid found.config) tex
 abbrev pub parts_found : FoundTable → TableParts
 parts_found found = record { config = found.config; widths = found.along.columns.sizes; heights = found.along.rows.sizes }
 
+-- its total width and its total height, with all lines
+abbrev pub totals_of : FoundTable → ℕ × ℕ
+totals_of found = (found.along.columns.total, found.along.rows.total)
+
 module _ (settings : List Setting) (rows : List (List (List ℕ))) (sizing : Sizing) where
-  -- the same by a configuration that the settings tell; the totals fit
+  -- the same by a configuration that the settings tell; the totals are those of the table, and fit
   pub record IsFoundTable (found : FoundTable) : Type 0 where
     pub configured : IsConfiguredBy settings found.config
     pub sized : AreFoundSizes rows sizing found
+    pub totals : totals_of found ≡ (total_along (view_of (parts_found found)) Columns, total_along (view_of (parts_found found)) Rows)
     pub fit : (direction : Direction) → total_along (view_of (parts_found found)) direction < 2 ^ 64
 
   -- why there are none
@@ -44,10 +49,6 @@ module _ (settings : List Setting) (rows : List (List (List ℕ))) (sizing : Siz
   IsNoFoundTable TooLarge = HasNoSizes layout_errors.TooLarge
   IsNoFoundTable Memory = ⊤
   IsNoFoundTable e = ⊥
-
--- its total width and its total height, with all lines
-abbrev pub totals_of : FoundTable → ℕ × ℕ
-totals_of found = (found.along.columns.total, found.along.rows.total)
 
 -- the widths, or the heights
 abbrev pub sizes_along : Direction → FoundTable → List ℕ

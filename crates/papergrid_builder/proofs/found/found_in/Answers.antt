@@ -3,7 +3,8 @@ use Rattle.papergrid_layout.proofs.MadeLemmas.{chosen-fit}
 use Rattle.papergrid_walk.specs.Measures.{text_measure}
 use Rattle.papergrid_builder.specs.Told.{longest}
 use Rattle.papergrid_builder.specs.ForProofs.Texts.{rows_lent}
-use Rattle.papergrid_builder.proofs.DrawLemmas.{not-found}
+use Rattle.papergrid_builder.specs.ForProofs.Kept.{found_of}
+use Rattle.papergrid_builder.proofs.DrawLemmas.{not-found, totals-found}
 use Rattle.papergrid_builder.proofs.found.found_in.Goals as goal
 
 pub returns-in_err-along-clause-err : goal.returns-in_err-along-clause-err
@@ -19,5 +20,6 @@ returns-clause-ok c =
     record {
       configured = c.in_ok-config.ensures;
       sized = found;
+      totals = totals-found rows (found_of (record { config = c.in_ok-config.config; along = c.in_ok-along.along })) c.args.sizing found;
       fit = chosen-fit c.args.sizing c.in_ok-config.config text_measure (longest rows) rows _ _ (record { widths = found.widths.sizes; heights = found.heights.sizes });
     }
