@@ -79,7 +79,8 @@ pub fn run_csv<S: Source, W: Sink>(
     ensures written { IfOk result (λ end. (output : List ℕ)
         × IsCsvRun request.now input.new.items end output
         × Appends (W.contents writer.old) (W.contents writer.new) output) }
-    // The whole input is kept, no read and no write failed, and each write of a piece that isn't empty took a byte.
+    // The whole input is kept, and no read and no write failed. Each write of a piece that isn't empty took a byte, of a
+    // writer that had not stalled before.
     ensures ran { OnOk result (HasRun S.remaining S.has_failed W.contents W.has_failed
         W.has_stalled reader.old reader.new writer.old writer.new input.old input.new) }
     // Which fault comes, and what it leaves of the reader, of the writer and of the vector.

@@ -12,7 +12,7 @@ IsRefusal Write = ⊥
 IsRefusal e = ⊤
 
 module _ {W : Type 0} (contents : W → Option (List ℕ)) (has_failed has_stalled : W → Bool) where
-  -- all the bytes were taken, and no write failed or took nothing
+  -- all the bytes were taken. Whether a write has failed, and whether one took nothing, is as before
   pub record IsTaken (old : W) (bytes : List ℕ) (new : W) : Type 0 where
     pub bytes_are : Appends (contents old) (contents new) bytes
     pub works : has_failed new ≡ has_failed old
@@ -26,7 +26,7 @@ module _ {W : Type 0} (contents : W → Option (List ℕ)) (has_failed has_stall
   abbrev pub HasEnded : W → W → Type 0
   HasEnded old new = (has_failed new ≡ true) ⊎ (has_stalled old ≡ false → has_stalled new ≡ true)
 
-  -- no write failed or took nothing
+  -- whether a write has failed, and whether one took nothing, is as before
   abbrev pub IsSteady : W → W → Type 0
   IsSteady old new = (has_failed new ≡ has_failed old) × (has_stalled new ≡ has_stalled old)
 

@@ -9,8 +9,8 @@ use Rattle.papergrid_script.specs.declared.reading.RunFault.TheVariants.{Memory,
 -- a reader and a writer, by what they tell
 module _ {R W : Type 0} (remaining : R → Option (List ℕ)) (read_failed : R → Bool) (contents : W → Option (List ℕ)) (has_failed has_stalled : W → Bool)
     (reader_old reader_new : R) (writer_old writer_new : W) (input_old input_new : Vec ℕ Global) where
-  -- the run came to its end: the whole input is kept, no read and no write failed, and each write of a piece that isn't
-  -- empty took a byte
+  -- the run came to its end: the whole input is kept, no read and no write failed, and whether a write took nothing of a
+  -- piece that isn't empty is as before
   pub record HasRun : Type 0 where
     pub kept : IsWholeInput (remaining reader_old) (remaining reader_new) input_new.items
     pub reader_works : read_failed reader_new ≡ false
@@ -23,7 +23,7 @@ module _ {R W : Type 0} (remaining : R → Option (List ℕ)) (read_failed : R �
     pub nothing : writer_new ≡ writer_old
     pub kept : input_new ≡ input_old
 
-  -- an allocation failed, and no read and no write
+  -- an allocation failed, and no read and no write. Whether a write took nothing is as before
   pub record HasMemoryFault : Type 0 where
     pub reader_works : read_failed reader_new ≡ false
     pub writer_works : has_failed writer_new ≡ false
