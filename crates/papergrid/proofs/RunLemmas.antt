@@ -17,6 +17,7 @@ use Rattle.papergrid.specs.Pictures.{IsPictureOf, IsPictureRun, IsTablePicture, 
 use Rattle.papergrid_grid.specs.Pictures.{IsDrawingWith, IsFaultWith}
 use Rattle.papergrid.specs.ForProofs.Drawn.{IsBrokenOff, Runs}
 use Rattle.papergrid_draw.specs.Sinks.{HasEnded, IsRefusal, IsSteady, IsTaken, IsUndrawn}
+use Rattle.papergrid_draw.proofs.SinkLemmas.{undrawn-beginning, undrawn-steady, undrawn-write}
 
 module _ {W : Type 0} (contents : W → Option (List ℕ)) (has_failed has_stalled : W → Bool) where
   -- a run whose output is so, where another way to say it follows
@@ -47,11 +48,17 @@ module _ {W : Type 0} (contents : W → Option (List ℕ)) (has_failed has_stall
   runs-broken IsSo old new (Err fault) so = (so.not_read, so.write, so.steady)
 
   module _ (sizing : Sizing) (table : Table) (config : SpannedConfig) (told : IsConfiguredBy table.settings config) where
+    abbrev IsSo : Drawing → Type 0
+    IsSo = IsDrawingWith table.columns table.rows sizing config
+
+    abbrev IsWhy : DrawError → Type 0
+    IsWhy = IsFaultWith table.columns table.rows sizing config
+
     abbrev IsSoUndrawn : W → W → DrawError → Type 0
-    IsSoUndrawn old new e = IsUndrawn contents has_failed has_stalled (IsDrawingWith table.columns table.rows sizing config) (IsFaultWith table.columns table.rows sizing config) lined old new e
+    IsSoUndrawn old new e = IsUndrawn contents has_failed has_stalled IsSo IsWhy lined old new e
 
     -- the picture was written
-    pub run-drawn : (old new : W) → ((d : Drawing) × IsDrawingWith table.columns table.rows sizing config d × IsTaken contents has_failed has_stalled old (lined d) new) →
+    pub run-drawn : (old new : W) → ((d : Drawing) × IsSo d × IsTaken contents has_failed has_stalled old (lined d) new) →
         Runs contents has_failed has_stalled (IsTablePicture sizing table) old new (Ok Done)
     run-drawn old new so = (lined so.0, (so.0, (config, told, so.1), refl), so.2)
 
@@ -60,12 +67,15 @@ module _ {W : Type 0} (contents : W → Option (List ℕ)) (has_failed has_stall
         IsBrokenOff contents has_failed has_stalled (IsTablePicture sizing table) old new fault
     run-broken old new e fault not_read follows so = record {
       not_read = not_read;
-      beginning = elim so.beginning [
+      beginning = elim (undrawn-beginning contents has_failed has_stalled IsSo IsWhy lined old new e so) [
         | inl same ↦ inl same
         | inr begun ↦ inr (Done, (lined begun.0, (begun.0, (config, told, begun.1), refl), begun.2))
       ];
-      write = λ is. so.write (follows.0 is);
-      steady = elim so.steady [ inl is ↦ inl (follows.1 is) | inr steady ↦ inr steady ];
+      write = λ is. undrawn-write contents has_failed has_stalled IsSo IsWhy lined old new e so (follows.0 is);
+      steady = elim (undrawn-steady contents has_failed has_stalled IsSo IsWhy lined old new e so) [
+        | inl is ↦ inl (follows.1 is)
+        | inr steady ↦ inr steady
+      ];
     }
 
     -- it was refused, and the line that says so was written

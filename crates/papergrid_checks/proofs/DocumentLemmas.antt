@@ -6,6 +6,7 @@ use Rattle.std.specs.Result.{is_ok}
 use Rattle.std.proofs.KnownBytes.{Appends-nil}
 use Rattle.papergrid_draw.specs.Drawings.{Drawing}
 use Rattle.papergrid_draw.specs.Sinks.{IsTaken, IsUndrawn}
+use Rattle.papergrid_draw.proofs.SinkLemmas.{undrawn-beginning}
 use Rattle.papergrid_draw.specs.declared.error.DrawError.{DrawError}
 use Rattle.papergrid_grid.specs.Lined.{lined}
 use Rattle.papergrid_layout.specs.declared.sizing.Sizing.TheVariants.{ByShares}
@@ -36,7 +37,7 @@ module _ {W : Type 0} (contents : W → Option (List ℕ)) (has_failed has_stall
   pictured is = (lined is.0, of-document document range is.0 is.1, is.2.bytes_are)
 
   begun : (e : DrawError) → IsNoPicture e → AppendsBeginning IsOfDocument (contents old) (contents new)
-  begun e is = elim is.beginning [
+  begun e is = elim (undrawn-beginning contents has_failed has_stalled (IsDocumentDrawing document ByShares) (IsDocumentFault document ByShares) lined old new e is) [
     | inl kept ↦ inl (subst (λ (w : W). Appends (contents old) (contents w) []) (sym kept) (Appends-nil (contents old)))
     | inr so ↦ inr (lined so.0, of-document document range so.0 so.1, so.2)
   ]

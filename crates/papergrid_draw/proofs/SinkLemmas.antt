@@ -148,26 +148,14 @@ module _ {W : Type 0} (contents : W → Option (List ℕ)) (has_failed has_stall
   module _ (IsDrawn : Drawing → Type 0) (IsFault : DrawError → Type 0) (text_of : Drawing → List ℕ) where
     -- there is no drawing
     pub draws-none : (w : W) (e : DrawError) → e ≢ Write → (IsRefusal e → IsFault e) → IsUndrawn contents has_failed has_stalled IsDrawn IsFault text_of w w e
-    draws-none w e works fault = record {
-      fault = fault;
-      nothing = λ named. refl;
-      beginning = inl refl;
-      write = λ is. absurd (works is);
-      steady = inr (refl, refl);
-    }
+    draws-none w e works fault = record { fault = fault; nothing = λ named. refl; left = inl (works, refl) }
 
     -- there is one, and its text was taken, or not
     pub draws-so : {A : Type 0} (d : Drawing) → IsDrawn d → ((e : DrawError) → IsDrawFault d e → IsFault e) → (old new : W) (result : Result A DrawError) →
         OnOk result (took old (text_of d) new) → IfErr result (IsDrawFault d) → IfErr result (IsCutOff contents has_failed has_stalled old (text_of d) new) →
         WritesPicture contents has_failed has_stalled IsDrawn IsFault text_of old new result
     draws-so d is follows old new (Ok x) taken fault left = (d, is, taken)
-    draws-so d is follows old new (Err e) taken fault left = record {
-      fault = λ named. follows e fault;
-      nothing = left.nothing;
-      beginning = inr (d, is, left.beginning);
-      write = left.write;
-      steady = left.steady;
-    }
+    draws-so d is follows old new (Err e) taken fault left = record { fault = λ named. follows e fault; nothing = left.nothing; left = inr (d, is, left) }
 
     -- what follows of the drawing and of the fault
     pub draws-also : (IsAlso : Drawing → Type 0) (IsWhy : DrawError → Type 0) → ((d : Drawing) → IsDrawn d → IsAlso d) → ((e : DrawError) → IsFault e → IsWhy e) →
@@ -177,10 +165,23 @@ module _ {W : Type 0} (contents : W → Option (List ℕ)) (has_failed has_stall
     draws-also IsAlso IsWhy also why old new (Err e) so = record {
       fault = λ named. why e (so.fault named);
       nothing = so.nothing;
-      beginning = elim so.beginning [ inl same ↦ inl same | inr begun ↦ inr (begun.0, also begun.0 begun.1, begun.2) ];
-      write = so.write;
-      steady = so.steady;
+      left = elim so.left [ inl same ↦ inl same | inr cut ↦ inr (cut.0, also cut.0 cut.1, cut.2) ];
     }
+
+    -- it is as it was, or took a beginning
+    pub undrawn-beginning : (old new : W) (e : DrawError) → IsUndrawn contents has_failed has_stalled IsDrawn IsFault text_of old new e →
+        (new ≡ old) ⊎ ((d : Drawing) × IsDrawn d × HasBegun contents has_failed has_stalled old (text_of d) new)
+    undrawn-beginning old new e so = elim so.left [ inl same ↦ inl same.1 | inr cut ↦ inr (cut.0, cut.1, cut.2.beginning) ]
+
+    -- where a write failed it has ended
+    pub undrawn-write : (old new : W) (e : DrawError) → IsUndrawn contents has_failed has_stalled IsDrawn IsFault text_of old new e → e ≡ Write →
+        HasEnded contents has_failed has_stalled old new
+    undrawn-write old new e so is = elim so.left [ inl same ↦ absurd (same.0 is) | inr cut ↦ cut.2.write is ]
+
+    -- else it failed and stalled no more than before
+    pub undrawn-steady : (old new : W) (e : DrawError) → IsUndrawn contents has_failed has_stalled IsDrawn IsFault text_of old new e →
+        (e ≡ Write) ⊎ IsSteady contents has_failed has_stalled old new
+    undrawn-steady old new e so = elim so.left [ inl same ↦ inr (ap has_failed same.1, ap has_stalled same.1) | inr cut ↦ cut.2.steady ]
 
     -- the same by its two outcomes
     pub picture-written : {A : Type 0} (old new : W) (result : Result A DrawError) → WritesPicture contents has_failed has_stalled IsDrawn IsFault text_of old new result →

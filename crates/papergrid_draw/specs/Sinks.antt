@@ -1,5 +1,5 @@
 -- What a sink took of a text that was drawn to it, by what it tells of itself.
-use Rattle.std.specs.Prelude.{◌≡◌, ◌⊎◌, ⊤, ℕ, Bool, false, true, List, Option, Result, Ok, Err, take}
+use Rattle.std.specs.Prelude.{◌≡◌, ◌≢◌, ◌⊎◌, ⊤, ℕ, Bool, false, true, List, Option, Result, Ok, Err, take}
 use Rattle.std.specs.Io.KnownBytes.{Appends}
 use Rattle.papergrid_draw.specs.Drawings.{Drawing}
 use Rattle.papergrid_draw.specs.declared.error.DrawError.{DrawError}
@@ -38,13 +38,12 @@ module _ {W : Type 0} (contents : W → Option (List ℕ)) (has_failed has_stall
     pub steady : (e ≡ Write) ⊎ IsSteady old new
 
   module _ (IsDrawn : Drawing → Type 0) (IsFault : DrawError → Type 0) (text_of : Drawing → List ℕ) where
-    -- the same where there may be no drawing yet, and why there is none
+    -- why there is no picture, and the sink after that: as it was, as always after a refusal, or with a beginning of a
+    -- drawing's text. A write fails only where there is a drawing
     pub record IsUndrawn (old new : W) (e : DrawError) : Type 0 where
       pub fault : IsRefusal e → IsFault e
       pub nothing : IsRefusal e → new ≡ old
-      pub beginning : (new ≡ old) ⊎ ((d : Drawing) × IsDrawn d × HasBegun old (text_of d) new)
-      pub write : e ≡ Write → HasEnded old new
-      pub steady : (e ≡ Write) ⊎ IsSteady old new
+      pub left : ((e ≢ Write) × (new ≡ old)) ⊎ ((d : Drawing) × IsDrawn d × IsCutOff old (text_of d) new e)
 
     -- the text of such a drawing was taken, or why it was not
     abbrev pub WritesPicture : {A : Type 0} → W → W → Result A DrawError → Type 0

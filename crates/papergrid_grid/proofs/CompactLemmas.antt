@@ -1,6 +1,6 @@
 -- The drawing of a table whose cells are all alike.
-use Rattle.std.proofs.Common.{◌≡◌, ◌≢◌, ◌⊎◌, ◌∙◌, ◌+◌, ◌≤◌, ℕ, Bool, zero, suc, Global, List, Option, Vec, ap, arith, inl, inr, length, map, refl, subst, sym}
-use Rattle.std.specs.Prelude.{⊤, slice_index}
+use Rattle.std.proofs.Common.{◌≡◌, ◌≢◌, ◌⊎◌, ◌∙◌, ◌+◌, ◌≤◌, ℕ, zero, suc, Global, List, Option, Vec, ap, arith, inl, inr, length, map, refl, subst, sym}
+use Rattle.std.specs.Prelude.{slice_index}
 use Rattle.std.specs.List.{range_with_len, sum_by}
 use Rattle.std.specs.declared.alloc.AllocError.{AllocError}
 use Rattle.std.proofs.lemmas.List.{length-map}
@@ -9,18 +9,16 @@ use Rattle.papergrid_values.specs.declared.position.Position.{Position}
 use Rattle.papergrid_values.specs.declared.compact.CompactConfig.{CompactConfig}
 use Rattle.papergrid_layout.specs.Tables.{IsTotalTooLarge}
 use Rattle.papergrid_layout.specs.Places.{sum_from}
-use Rattle.papergrid_draw.specs.Deliveries.{IsLeftOff}
 use Rattle.papergrid_draw.specs.Drawings.{Drawing, drawn_of, layout_of}
-use Rattle.papergrid_draw.specs.Margins.{printed}
 use Rattle.papergrid_draw.specs.declared.error.DrawError.{DrawError}
 use Rattle.papergrid_draw.specs.declared.error.DrawError.TheVariants.{Memory, TooLarge, Write}
-use Rattle.papergrid_draw.specs.Sinks.{IsCutOff}
-use Rattle.papergrid_draw.proofs.SinkLemmas.{cut-off-before}
+use Rattle.papergrid_draw.specs.Sinks.{IsRefusal}
 use Rattle.papergrid_grid.specs.Cells.{lines_at}
 use Rattle.papergrid_grid.specs.Compact.{AreRowsTooHigh, IsCompactDrawing, IsCompactTable, compact_height, first_line}
-use Rattle.papergrid_grid.specs.Sized.{IsGridFault, UnlessMemoryFails, drawing_of_rows, parts_of, texts_at}
+use Rattle.papergrid_grid.specs.Sized.{drawing_of_rows, parts_of, texts_at}
+use Rattle.papergrid_grid.specs.Printed.{IsPrintFault}
 use Rattle.papergrid_grid.specs.declared.equal_rows.CompactTable.{CompactTable}
-use Rattle.papergrid_grid.proofs.GridLemmas.{drawn_rows, unless_memory}
+use Rattle.papergrid_grid.proofs.GridLemmas.{drawn_rows}
 
 -- heights that are equal where there is a row
 heights_same : (n h k : ℕ) → (n ≢ 0 → h ≡ k) → map (λ _. h) (range_with_len 0 n) ≡ map (λ _. k) (range_with_len 0 n)
@@ -37,25 +35,30 @@ one_of_all h (suc n) some =
     subst (λ all. h ≤ all) (sym (sum_by-cons size 0 more)) within
 
 module _ {T : Type 0} (text : T → List ℕ) (tells : List (List T) → Type 0) (columns : ℕ) (compact : CompactConfig) (widths : ℕ → ℕ) where
-  -- what holds of the drawing of a compact table holds of a drawing of the rows told
-  pub drawn_compact : {C K : Type 0} (texts : K → List ℕ × List ℕ) (color_at : C → Position → Option K) (colors : C)
-      (table : CompactTable T) (rows : List (Vec T Global)) (count : ℕ) (P : Drawing → Type 0) →
+  -- the drawing of a compact table is one of the rows told
+  pub compact_drawing : {C K : Type 0} (texts : K → List ℕ × List ℕ) (color_at : C → Position → Option K) (colors : C)
+      (table : CompactTable T) (rows : List (Vec T Global)) (count : ℕ) →
       IsCompactTable tells compact columns table → count ≡ length table.rows.items → rows ≡ table.rows.items →
-      P (drawn_of (λ held. lines_at first_line (map (λ row. map text row.items) held)) (λ _. texts_at texts color_at colors)
-      (parts_of table.config widths (λ _. table.height) (count, table.columns)) rows) →
-      (d : Drawing) × IsCompactDrawing text tells columns compact widths (texts_at texts color_at colors) d × P d
-  drawn_compact texts color_at colors table rows count P is n r holds =
+      IsCompactDrawing text tells columns compact widths (texts_at texts color_at colors)
+      (drawn_of (λ held. lines_at first_line (map (λ row. map text row.items) held)) (λ _. texts_at texts color_at colors)
+      (parts_of table.config widths (λ _. table.height) (count, table.columns)) rows)
+  compact_drawing texts color_at colors table rows count is n r =
       let cells : List (List T) = map (λ (row : Vec T Global). row.items) table.rows.items in
+      let held : Drawing = drawn_of (λ held. lines_at first_line (map (λ (row : Vec T Global). map text row.items) held)) (λ _. texts_at texts color_at colors)
+      (parts_of table.config widths (λ _. table.height) (count, table.columns)) rows in
       let drawn : List ℕ → Drawing = λ heights. drawing_of_rows (λ cell. first_line (text cell))
       (record { config = table.config; widths = map widths (range_with_len 0 columns); heights = heights }) cells (texts_at texts color_at colors) in
-      let count_of : length cells ≡ length table.rows.items = length-map table.rows.items (λ (row : Vec T Global). row.items) in (
-        drawn (map (λ _. compact_height compact) (range_with_len 0 (length cells))),
-        record { config = table.config; made = is.made; cells = cells; told = is.told; is = refl },
-        subst (λ heights. P (drawn heights))
+      let count_of : length cells ≡ length table.rows.items = length-map table.rows.items (λ (row : Vec T Global). row.items) in
+      record {
+        config = table.config;
+        made = is.made;
+        cells = cells;
+        told = is.told;
+        is = subst (λ heights. held ≡ drawn heights)
             (heights_same (length cells) table.height (compact_height compact) (λ some. is.has_height (λ none. some (count_of ∙ none))))
-            (drawn_rows first_line text texts color_at table.config widths (λ _. table.height) (λ _ d. P d)
-            count table.columns columns rows table.rows.items colors n is.has_columns r holds),
-      )
+            (drawn_rows first_line text texts color_at table.config widths (λ _. table.height) (λ _ d. held ≡ d)
+            count table.columns columns rows table.rows.items colors n is.has_columns r refl);
+      }
 
   -- rows that are higher than the greatest `usize` are the rows of a drawing that is too large
   pub drawn_too_large : (color : Position → Option (List ℕ × List ℕ)) → AreRowsTooHigh tells compact →
@@ -68,31 +71,14 @@ module _ {T : Type 0} (text : T → List ℕ) (tells : List (List T) → Type 0)
         inr (omega (arith, all, is.high)),
       )
 
-  -- so, where they are not drawn, this is why
+  -- so a refusal has this reason
   pub refused : (color : Position → Option (List ℕ × List ℕ)) (e : DrawError) →
       ((error : AllocError) × (e ≡ Memory error)) ⊎ ((e ≡ TooLarge) × AreRowsTooHigh tells compact) →
-      UnlessMemoryFails e ((d : Drawing) × IsCompactDrawing text tells columns compact widths color d × IsGridFault d e)
-  refused color e (inl (error, is)) =
-      subst (λ x. UnlessMemoryFails x ((d : Drawing) × IsCompactDrawing text tells columns compact widths color d × IsGridFault d x)) (sym is) tt
-  refused color e (inr (is, high)) =
-      let drawn = drawn_too_large color high in unless_memory e (drawn.0, drawn.1, inl (is, drawn.2))
+      IsRefusal e → IsPrintFault (IsCompactDrawing text tells columns compact widths color) e
+  refused color e (inl (error, is)) named = absurd (subst IsRefusal is named)
+  refused color e (inr (is, high)) named = let drawn = drawn_too_large color high in (drawn.0, drawn.1, inl (is, drawn.2))
 
-  -- and a writer is as it was
-  pub left_as_it_was : {W : Type 0} (takes : W → List ℕ → W → Type 0) (old : W) (color : Position → Option (List ℕ × List ℕ)) (e : DrawError) →
-      ((error : AllocError) × (e ≡ Memory error)) ⊎ ((e ≡ TooLarge) × AreRowsTooHigh tells compact) →
-      ((error : AllocError) × (e ≡ Memory error) × (old ≡ old))
-      ⊎ ((d : Drawing) × IsCompactDrawing text tells columns compact widths color d × IsLeftOff takes (λ _ _ _. ⊤) old (printed d) old e)
-  left_as_it_was takes old color e (inl (error, is)) = inl (error, is, refl)
-  left_as_it_was takes old color e (inr (is, high)) =
-      let drawn = drawn_too_large color high in
-      inr (drawn.0, drawn.1, subst (λ x. IsLeftOff takes (λ _ _ _. ⊤) old (printed drawn.0) old x) (sym is) refl)
-
-  -- and so is a sink
-  pub sink_as_it_was : {W : Type 0} (contents : W → Option (List ℕ)) (has_failed has_stalled : W → Bool) (old : W) (color : Position → Option (List ℕ × List ℕ)) (e : DrawError) →
-      ((error : AllocError) × (e ≡ Memory error)) ⊎ ((e ≡ TooLarge) × AreRowsTooHigh tells compact) →
-      ((error : AllocError) × (e ≡ Memory error) × (old ≡ old))
-      ⊎ ((d : Drawing) × IsCompactDrawing text tells columns compact widths color d × IsCutOff contents has_failed has_stalled old (printed d) old e)
-  sink_as_it_was contents has_failed has_stalled old color e (inl (error, is)) = inl (error, is, refl)
-  sink_as_it_was contents has_failed has_stalled old color e (inr (is, high)) =
-      let drawn = drawn_too_large color high in
-      inr (drawn.0, drawn.1, cut-off-before contents has_failed has_stalled old (printed drawn.0) e (λ write. let never : TooLarge ≡ Write = sym is ∙ write in cc never))
+  -- and no write has failed
+  pub unwritten : (e : DrawError) → ((error : AllocError) × (e ≡ Memory error)) ⊎ ((e ≡ TooLarge) × AreRowsTooHigh tells compact) → e ≢ Write
+  unwritten e (inl (error, is)) = λ write. let never : Memory error ≡ Write = sym is ∙ write in cc never
+  unwritten e (inr (is, high)) = λ write. let never : TooLarge ≡ Write = sym is ∙ write in cc never

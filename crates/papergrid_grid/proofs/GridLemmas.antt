@@ -1,5 +1,5 @@
 -- Tables with the sizes of a dimension, and why they are not drawn.
-use Rattle.std.proofs.Common.{◌≡◌, ◌∙◌, ℕ, Err, Global, IfErr, List, Ok, Option, Result, Vec, inr, length, map, subst, sym, ap}
+use Rattle.std.proofs.Common.{◌≡◌, ◌∙◌, ℕ, Err, Global, IfErr, List, Ok, Option, Result, Vec, inr, length, map, refl, subst, sym, ap}
 use Rattle.std.proofs.lemmas.List.{length-map}
 use Rattle.papergrid_values.specs.declared.position.Position.{Position}
 use Rattle.papergrid_config.specs.declared.spanned.SpannedConfig.{SpannedConfig}
@@ -7,9 +7,9 @@ use Rattle.papergrid_layout.specs.Tables.{HasSizes, TableParts}
 use Rattle.papergrid_draw.specs.Drawings.{Drawing, drawn_of}
 use Rattle.papergrid_draw.specs.Faults.{IsDrawFault}
 use Rattle.papergrid_draw.specs.declared.error.DrawError.{DrawError}
-use Rattle.papergrid_draw.specs.declared.error.DrawError.TheVariants.{Memory, NoRoom, NotTiled, OutOfTable, TooLarge, Write}
 use Rattle.papergrid_grid.specs.Cells.{lines_at, text_lines}
-use Rattle.papergrid_grid.specs.Sized.{IsGridFault, UnlessMemoryFails, drawing_of_rows, parts_of, texts_at}
+use Rattle.papergrid_grid.specs.Sized.{IsGridFault, drawing_of_rows, parts_of, texts_at}
+use Rattle.papergrid_grid.specs.TextRows.{IsTextDrawing}
 use Rattle.papergrid_grid.proofs.HeldLemmas.{lines_of_texts}
 
 -- as any table
@@ -58,24 +58,21 @@ module _ {T C K : Type 0} (lines_in : List ℕ → List (List ℕ × ℕ)) (text
       subst (λ i. drawn i other_columns after) (n ∙ sym (length-map others items))
       (subst (λ j. drawn count j after) k (subst (λ l. drawn count columns l) lines is))
 
-pub drawn_texts : {T C K : Type 0} (text : T → List ℕ) (texts : K → List ℕ × List ℕ) (color_at : C → Position → Option K)
-    (config : SpannedConfig) (widths heights : ℕ → ℕ) (P : TableParts → Drawing → Type 0)
+-- the drawing of rows of texts that are held is one of the rows told
+pub text_drawing : {T C K : Type 0} (text : T → List ℕ) (texts : K → List ℕ × List ℕ) (color_at : C → Position → Option K)
+    (config : SpannedConfig) (widths heights : ℕ → ℕ) (tells : List (List T) → Type 0)
     (count columns other_columns : ℕ) (rows others : List (Vec T Global)) (colors : C) →
-    count ≡ length others → columns ≡ other_columns → rows ≡ others →
-    (let parts = parts_of config widths heights (count, columns) in
-    P parts (drawn_of (λ held. lines_at text_lines (map (λ row. map text row.items) held)) (λ _. texts_at texts color_at colors) parts rows)) →
-    (let parts = parts_of config widths heights (length (map (λ row. row.items) others), other_columns) in
-    P parts (drawing_of_rows (λ cell. text_lines (text cell)) parts (map (λ row. row.items) others) (texts_at texts color_at colors)))
-drawn_texts = drawn_rows text_lines
-
--- what is so is so unless an allocation failed
-pub unless_memory : (e : DrawError) {P : Type 0} → P → UnlessMemoryFails e P
-unless_memory (Memory e) is = tt
-unless_memory (OutOfTable p) is = is
-unless_memory (NotTiled p) is = is
-unless_memory (NoRoom p) is = is
-unless_memory TooLarge is = is
-unless_memory Write is = is
+    count ≡ length others → columns ≡ other_columns → rows ≡ others → tells (map (λ row. row.items) others) →
+    IsTextDrawing text tells other_columns config widths heights (texts_at texts color_at colors)
+    (drawn_of (λ held. lines_at text_lines (map (λ row. map text row.items) held)) (λ _. texts_at texts color_at colors) (parts_of config widths heights (count, columns)) rows)
+text_drawing {T = T} text texts color_at config widths heights tells count columns other_columns rows others colors n k r told =
+    let d = drawn_of (λ held. lines_at text_lines (map (λ (row : Vec T Global). map text row.items) held)) (λ _. texts_at texts color_at colors)
+    (parts_of config widths heights (count, columns)) rows in
+    record {
+      cells = map (λ (row : Vec T Global). row.items) others;
+      told = told;
+      is = drawn_rows text_lines text texts color_at config widths heights (λ parts drawn. d ≡ drawn) count columns other_columns rows others colors n k r refl;
+    }
 
 -- what holds of the error that a `?` returns holds of the result
 pub at_exit : {A E : Type 0} (r : Result A E) (x : E) (Q : E → Type 0) → (y : E) × (r ≡ Err y) × (y ≡ x) → Q x → IfErr r Q

@@ -7,3 +7,4 @@ pub mod HeldLemmas
 pub mod LinedLemmas
 pub mod OwnerLemmas
 pub mod PictureLemmas
+pub mod PrintLemmas

@@ -5,4 +5,6 @@ pub mod Crossings
 pub mod ForProofs
 pub mod Lined
 pub mod Pictures
+pub mod Printed
 pub mod Sized
+pub mod TextRows

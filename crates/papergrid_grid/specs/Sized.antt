@@ -1,5 +1,5 @@
 -- The table of sizes that a dimension has, and its drawing.
-use Rattle.std.specs.Prelude.{◌≡◌, ◌⊎◌, ⊤, ℕ, List, Option, map, option_map}
+use Rattle.std.specs.Prelude.{◌≡◌, ◌⊎◌, ℕ, List, Option, map, option_map}
 use Rattle.std.specs.List.{range_with_len}
 use Rattle.papergrid_values.specs.declared.position.Position.{Position}
 use Rattle.papergrid_config.specs.declared.spanned.SpannedConfig.{SpannedConfig}
@@ -9,7 +9,7 @@ use Rattle.papergrid_layout.specs.Tables.{IsTotalTooLarge, TableParts}
 use Rattle.papergrid_draw.specs.Drawings.{Drawing, drawn_of, layout_of}
 use Rattle.papergrid_draw.specs.Faults.{IsDrawFault}
 use Rattle.papergrid_draw.specs.declared.error.DrawError.{DrawError}
-use Rattle.papergrid_draw.specs.declared.error.DrawError.TheVariants.{Memory, NoRoom, NotTiled, OutOfTable, TooLarge, Write}
+use Rattle.papergrid_draw.specs.declared.error.DrawError.TheVariants.{TooLarge}
 use Rattle.papergrid_grid.specs.Cells.{lines_at}
 
 -- a table of so many rows and columns, by a configuration, with these widths and heights
@@ -36,15 +36,12 @@ texts_at texts color_at colors = λ p. option_map texts (color_at colors p)
 abbrev pub drawing_of_rows : {C : Type 0} → (C → List (List ℕ × ℕ)) → TableParts → List (List C) → (Position → Option (List ℕ × List ℕ)) → Drawing
 drawing_of_rows lines parts rows color = drawn_of (lines_at lines) (λ _. color) parts rows
 
+-- the drawing of records that hold their rows, by a configuration and sizes, with the colours of the texts
+abbrev pub drawing_held : {T : Type 0} → (T → List (List ℕ × ℕ)) → SpannedConfig → (ℕ → ℕ) → (ℕ → ℕ) → VecRecords T →
+    (Position → Option (List ℕ × List ℕ)) → Drawing
+drawing_held lines config widths heights records color =
+    drawing_of_rows lines (parts_of config widths heights (shape_told records)) (cells_held records) color
+
 -- why a table with sizes of one's own is not drawn: a total without margins is too large, or as any table
 abbrev pub IsGridFault : Drawing → DrawError → Type 0
 IsGridFault d e = ((e ≡ TooLarge) × IsTotalTooLarge (layout_of d)) ⊎ IsDrawFault d e
-
--- P, unless an allocation failed
-abbrev pub UnlessMemoryFails : DrawError → Type 0 → Type 0
-UnlessMemoryFails (Memory e) P = ⊤
-UnlessMemoryFails (OutOfTable p) P = P
-UnlessMemoryFails (NotTiled p) P = P
-UnlessMemoryFails (NoRoom p) P = P
-UnlessMemoryFails TooLarge P = P
-UnlessMemoryFails Write P = P

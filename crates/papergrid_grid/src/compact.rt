@@ -1,16 +1,16 @@
 //! The printer of tables whose cells are all alike, of the first line of each text. Source: `grid/compact.rs`. Each call
 //! takes an allocator first, for the rows that it holds, for some numbers of each row and column and for a line.
 
-ghost use Rattle.std.specs.Prelude.{◌≡◌, ◌≢◌, ◌⊎◌, ⊤, IfErr, IfOk, OnOk, string_bytes};
+ghost use Rattle.std.specs.Prelude.{◌≡◌, ◌≢◌, IfErr, IfOk, OnOk, string_bytes};
 ghost use Rattle.std.specs.Fmt.{WritesInCalls};
-ghost use Rattle.papergrid_draw.specs.Deliveries.{IsLeftOff};
 ghost use Rattle.papergrid_draw.specs.Drawings.{Drawing};
 ghost use Rattle.papergrid_draw.specs.Margins.{printed};
-ghost use Rattle.papergrid_draw.specs.Sinks.{IsCutOff, IsTaken};
-ghost use Rattle.papergrid_draw.specs.declared.error.DrawError.TheVariants.{Memory, Write};
-ghost use Rattle.papergrid_grid.specs.Compact.{IsCompactDrawing};
+ghost use Rattle.papergrid_draw.specs.Sinks.{IsRefusal, IsTaken, IsUndrawn};
+ghost use Rattle.papergrid_draw.specs.declared.error.DrawError.TheVariants.{Write};
 ghost use Rattle.papergrid_layout.specs.Tables.{HasSizes};
-ghost use Rattle.papergrid_grid.specs.Sized.{IsGridFault, UnlessMemoryFails, texts_at};
+ghost use Rattle.papergrid_grid.specs.Compact.{IsCompactDrawing};
+ghost use Rattle.papergrid_grid.specs.Printed.{IsPrintFault, IsUnprinted};
+ghost use Rattle.papergrid_grid.specs.Sized.{texts_at};
 
 use crate::color::AsANSIStr;
 use crate::equal_rows::{EqualRows, LineCells, compact_table};
@@ -21,7 +21,7 @@ use papergrid_draw::transfer::Sink;
 use papergrid_layout::Dimension;
 use papergrid_text::{IntoRecords, Records};
 use papergrid_values::Colors;
-use std::alloc::{AllocError, Global};
+use std::alloc::Global;
 use std::convert::AsStr;
 use std::fmt;
 
@@ -107,18 +107,11 @@ where
             (D.width_of self.entry.dimension.now)
             (texts_at C.Color.texts C.color_at self.entry.colors.now) d
             × WritesInCalls F.write_str_gives writer.old (printed d) writer.new) }
-        ensures fault { IfErr result (λ e. UnlessMemoryFails e ((d : Drawing)
-            × IsCompactDrawing R.Iter.Cell.text
+        ensures unprinted { let IsDrawn = IsCompactDrawing R.Iter.Cell.text
             (R.tells self.entry.records) (R.columns self.entry.records) self.entry.config
             (D.width_of self.entry.dimension.now)
-            (texts_at C.Color.texts C.color_at self.entry.colors.now) d × IsGridFault d e)) }
-        ensures left { IfErr result (λ e.
-            ((error : AllocError) × (e ≡ Memory error) × (writer.new ≡ writer.old))
-            ⊎ ((d : Drawing) × IsCompactDrawing R.Iter.Cell.text
-            (R.tells self.entry.records) (R.columns self.entry.records) self.entry.config
-            (D.width_of self.entry.dimension.now)
-            (texts_at C.Color.texts C.color_at self.entry.colors.now) d
-            × IsLeftOff F.write_str_gives (λ _ _ _. ⊤) writer.old (printed d) writer.new e)) }
+            (texts_at C.Color.texts C.color_at self.entry.colors.now) in
+            IfErr result (IsUnprinted IsDrawn F.write_str_gives writer.old writer.new) }
     {
         let CompactGrid {
             records,
@@ -156,18 +149,12 @@ where
             (D.width_of self.entry.dimension.now)
             (texts_at C.Color.texts C.color_at self.entry.colors.now) d
             × IsTaken W.contents W.has_failed W.has_stalled sink.old (printed d) sink.new) }
-        ensures fault { IfErr result (λ e. UnlessMemoryFails e ((d : Drawing)
-            × IsCompactDrawing R.Iter.Cell.text
+        ensures undrawn { let IsDrawn = IsCompactDrawing R.Iter.Cell.text
             (R.tells self.entry.records) (R.columns self.entry.records) self.entry.config
             (D.width_of self.entry.dimension.now)
-            (texts_at C.Color.texts C.color_at self.entry.colors.now) d × IsGridFault d e)) }
-        ensures left { IfErr result (λ e.
-            ((error : AllocError) × (e ≡ Memory error) × (sink.new ≡ sink.old))
-            ⊎ ((d : Drawing) × IsCompactDrawing R.Iter.Cell.text
-            (R.tells self.entry.records) (R.columns self.entry.records) self.entry.config
-            (D.width_of self.entry.dimension.now)
-            (texts_at C.Color.texts C.color_at self.entry.colors.now) d
-            × IsCutOff W.contents W.has_failed W.has_stalled sink.old (printed d) sink.new e)) }
+            (texts_at C.Color.texts C.color_at self.entry.colors.now) in
+            IfErr result (IsUndrawn W.contents W.has_failed W.has_stalled IsDrawn
+            (IsPrintFault IsDrawn) printed sink.old sink.new) }
     {
         let CompactGrid {
             records,
@@ -205,11 +192,11 @@ where
             (D.width_of self.entry.dimension.now)
             (texts_at C.Color.texts C.color_at self.entry.colors.now) d
             × (string_bytes string ≡ printed d)) }
-        ensures fault { IfErr result (λ e. UnlessMemoryFails e ((d : Drawing)
-            × IsCompactDrawing R.Iter.Cell.text
+        ensures fault { let IsDrawn = IsCompactDrawing R.Iter.Cell.text
             (R.tells self.entry.records) (R.columns self.entry.records) self.entry.config
             (D.width_of self.entry.dimension.now)
-            (texts_at C.Color.texts C.color_at self.entry.colors.now) d × IsGridFault d e)) }
+            (texts_at C.Color.texts C.color_at self.entry.colors.now) in
+            IfErr result (λ e. IsRefusal e → IsPrintFault IsDrawn e) }
         ensures works { IfErr result (λ e. e ≢ Write) }
     {
         let CompactGrid {

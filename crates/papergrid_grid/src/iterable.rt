@@ -1,16 +1,16 @@
 //! The printer over records whose cells are texts. Source: `grid/iterable.rs`. Each call takes an allocator first, for
 //! the rows that it holds, for some numbers of each row and column and for a line.
 
-ghost use Rattle.std.specs.Prelude.{◌≡◌, ◌≢◌, ◌⊎◌, ⊤, IfErr, IfOk, List, OnOk, length, string_bytes};
+ghost use Rattle.std.specs.Prelude.{◌≡◌, ◌≢◌, IfErr, IfOk, List, OnOk, length, string_bytes};
 ghost use Rattle.std.specs.Fmt.{WritesInCalls};
-ghost use Rattle.papergrid_draw.specs.Deliveries.{IsLeftOff};
+ghost use Rattle.papergrid_draw.specs.Drawings.{Drawing};
 ghost use Rattle.papergrid_draw.specs.Margins.{printed};
-ghost use Rattle.papergrid_draw.specs.Sinks.{IsCutOff, IsTaken};
-ghost use Rattle.papergrid_draw.specs.declared.error.DrawError.TheVariants.{Memory, Write};
-ghost use Rattle.papergrid_grid.specs.Cells.{text_lines};
+ghost use Rattle.papergrid_draw.specs.Sinks.{IsRefusal, IsTaken, IsUndrawn};
+ghost use Rattle.papergrid_draw.specs.declared.error.DrawError.TheVariants.{Write};
 ghost use Rattle.papergrid_layout.specs.Tables.{HasSizes};
-ghost use Rattle.papergrid_grid.specs.Sized.{IsGridFault, UnlessMemoryFails, drawing_of_rows, parts_of, texts_at};
-ghost use Rattle.papergrid_text.specs.Records.{TellsRows};
+ghost use Rattle.papergrid_grid.specs.Printed.{IsPrintFault, IsUnprinted};
+ghost use Rattle.papergrid_grid.specs.Sized.{texts_at};
+ghost use Rattle.papergrid_grid.specs.TextRows.{IsTextDrawing};
 
 use crate::cells::TextCells;
 use crate::color::AsANSIStr;
@@ -22,7 +22,7 @@ use papergrid_draw::transfer::Sink;
 use papergrid_layout::Dimension;
 use papergrid_text::{IntoRecords, Records};
 use papergrid_values::Colors;
-use std::alloc::{AllocError, Global};
+use std::alloc::Global;
 use std::convert::AsStr;
 use std::fmt;
 
@@ -86,29 +86,16 @@ where
         requires rows { (cells : List (List R.Iter.Cell)) → R.tells self.records cells →
             HasSizes (D.has_row self.dimension.now) (length cells) }
         requires columns { HasSizes (D.has_column self.dimension.now) (R.columns self.records) }
-        ensures picture { OnOk result (TellsRows R.tells self.entry.records (λ cells.
-            let parts = parts_of self.entry.config.now (D.width_of self.entry.dimension.now)
-            (D.height_of self.entry.dimension.now)
-            (length cells, R.columns self.entry.records) in
-            WritesInCalls F.write_str_gives writer.old
-            (printed (drawing_of_rows (λ cell. text_lines (R.Iter.Cell.text cell)) parts cells
-            (texts_at C.Color.texts C.color_at self.entry.colors.now))) writer.new)) }
-        ensures fault { IfErr result (λ e. UnlessMemoryFails e
-            (TellsRows R.tells self.entry.records (λ cells.
-            let parts = parts_of self.entry.config.now (D.width_of self.entry.dimension.now)
-            (D.height_of self.entry.dimension.now)
-            (length cells, R.columns self.entry.records) in
-            IsGridFault (drawing_of_rows (λ cell. text_lines (R.Iter.Cell.text cell)) parts cells
-            (texts_at C.Color.texts C.color_at self.entry.colors.now)) e))) }
-        ensures left { IfErr result (λ e.
-            ((error : AllocError) × (e ≡ Memory error) × (writer.new ≡ writer.old))
-            ⊎ TellsRows R.tells self.entry.records (λ cells.
-            let parts = parts_of self.entry.config.now (D.width_of self.entry.dimension.now)
-            (D.height_of self.entry.dimension.now)
-            (length cells, R.columns self.entry.records) in
-            IsLeftOff F.write_str_gives (λ _ _ _. ⊤) writer.old
-            (printed (drawing_of_rows (λ cell. text_lines (R.Iter.Cell.text cell)) parts cells
-            (texts_at C.Color.texts C.color_at self.entry.colors.now))) writer.new e)) }
+        ensures picture { OnOk result ((d : Drawing) × IsTextDrawing R.Iter.Cell.text
+            (R.tells self.entry.records) (R.columns self.entry.records) self.entry.config.now
+            (D.width_of self.entry.dimension.now) (D.height_of self.entry.dimension.now)
+            (texts_at C.Color.texts C.color_at self.entry.colors.now) d
+            × WritesInCalls F.write_str_gives writer.old (printed d) writer.new) }
+        ensures unprinted { let IsDrawn = IsTextDrawing R.Iter.Cell.text
+            (R.tells self.entry.records) (R.columns self.entry.records) self.entry.config.now
+            (D.width_of self.entry.dimension.now) (D.height_of self.entry.dimension.now)
+            (texts_at C.Color.texts C.color_at self.entry.colors.now) in
+            IfErr result (IsUnprinted IsDrawn F.write_str_gives writer.old writer.new) }
     {
         let IterGrid {
             records,
@@ -140,29 +127,17 @@ where
         requires rows { (cells : List (List R.Iter.Cell)) → R.tells self.records cells →
             HasSizes (D.has_row self.dimension.now) (length cells) }
         requires columns { HasSizes (D.has_column self.dimension.now) (R.columns self.records) }
-        ensures picture { OnOk result (TellsRows R.tells self.entry.records (λ cells.
-            let parts = parts_of self.entry.config.now (D.width_of self.entry.dimension.now)
-            (D.height_of self.entry.dimension.now)
-            (length cells, R.columns self.entry.records) in
-            IsTaken W.contents W.has_failed W.has_stalled sink.old
-            (printed (drawing_of_rows (λ cell. text_lines (R.Iter.Cell.text cell)) parts cells
-            (texts_at C.Color.texts C.color_at self.entry.colors.now))) sink.new)) }
-        ensures fault { IfErr result (λ e. UnlessMemoryFails e
-            (TellsRows R.tells self.entry.records (λ cells.
-            let parts = parts_of self.entry.config.now (D.width_of self.entry.dimension.now)
-            (D.height_of self.entry.dimension.now)
-            (length cells, R.columns self.entry.records) in
-            IsGridFault (drawing_of_rows (λ cell. text_lines (R.Iter.Cell.text cell)) parts cells
-            (texts_at C.Color.texts C.color_at self.entry.colors.now)) e))) }
-        ensures left { IfErr result (λ e.
-            ((error : AllocError) × (e ≡ Memory error) × (sink.new ≡ sink.old))
-            ⊎ TellsRows R.tells self.entry.records (λ cells.
-            let parts = parts_of self.entry.config.now (D.width_of self.entry.dimension.now)
-            (D.height_of self.entry.dimension.now)
-            (length cells, R.columns self.entry.records) in
-            IsCutOff W.contents W.has_failed W.has_stalled sink.old
-            (printed (drawing_of_rows (λ cell. text_lines (R.Iter.Cell.text cell)) parts cells
-            (texts_at C.Color.texts C.color_at self.entry.colors.now))) sink.new e)) }
+        ensures picture { OnOk result ((d : Drawing) × IsTextDrawing R.Iter.Cell.text
+            (R.tells self.entry.records) (R.columns self.entry.records) self.entry.config.now
+            (D.width_of self.entry.dimension.now) (D.height_of self.entry.dimension.now)
+            (texts_at C.Color.texts C.color_at self.entry.colors.now) d
+            × IsTaken W.contents W.has_failed W.has_stalled sink.old (printed d) sink.new) }
+        ensures undrawn { let IsDrawn = IsTextDrawing R.Iter.Cell.text
+            (R.tells self.entry.records) (R.columns self.entry.records) self.entry.config.now
+            (D.width_of self.entry.dimension.now) (D.height_of self.entry.dimension.now)
+            (texts_at C.Color.texts C.color_at self.entry.colors.now) in
+            IfErr result (IsUndrawn W.contents W.has_failed W.has_stalled IsDrawn
+            (IsPrintFault IsDrawn) printed sink.old sink.new) }
     {
         let IterGrid {
             records,
@@ -194,20 +169,16 @@ where
         requires rows { (cells : List (List R.Iter.Cell)) → R.tells self.records cells →
             HasSizes (D.has_row self.dimension.now) (length cells) }
         requires columns { HasSizes (D.has_column self.dimension.now) (R.columns self.records) }
-        ensures picture { IfOk result (λ string. TellsRows R.tells self.entry.records (λ cells.
-            let parts = parts_of self.entry.config.now (D.width_of self.entry.dimension.now)
-            (D.height_of self.entry.dimension.now)
-            (length cells, R.columns self.entry.records) in
-            string_bytes string ≡ printed (drawing_of_rows
-            (λ cell. text_lines (R.Iter.Cell.text cell)) parts cells
-            (texts_at C.Color.texts C.color_at self.entry.colors.now)))) }
-        ensures fault { IfErr result (λ e. UnlessMemoryFails e
-            (TellsRows R.tells self.entry.records (λ cells.
-            let parts = parts_of self.entry.config.now (D.width_of self.entry.dimension.now)
-            (D.height_of self.entry.dimension.now)
-            (length cells, R.columns self.entry.records) in
-            IsGridFault (drawing_of_rows (λ cell. text_lines (R.Iter.Cell.text cell)) parts cells
-            (texts_at C.Color.texts C.color_at self.entry.colors.now)) e))) }
+        ensures picture { IfOk result (λ string. (d : Drawing) × IsTextDrawing R.Iter.Cell.text
+            (R.tells self.entry.records) (R.columns self.entry.records) self.entry.config.now
+            (D.width_of self.entry.dimension.now) (D.height_of self.entry.dimension.now)
+            (texts_at C.Color.texts C.color_at self.entry.colors.now) d
+            × (string_bytes string ≡ printed d)) }
+        ensures fault { let IsDrawn = IsTextDrawing R.Iter.Cell.text
+            (R.tells self.entry.records) (R.columns self.entry.records) self.entry.config.now
+            (D.width_of self.entry.dimension.now) (D.height_of self.entry.dimension.now)
+            (texts_at C.Color.texts C.color_at self.entry.colors.now) in
+            IfErr result (λ e. IsRefusal e → IsPrintFault IsDrawn e) }
         ensures works { IfErr result (λ e. e ≢ Write) }
     {
         let IterGrid {

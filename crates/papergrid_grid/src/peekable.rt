@@ -9,7 +9,7 @@ ghost use Rattle.papergrid_draw.specs.Margins.{printed};
 ghost use Rattle.papergrid_draw.specs.Sinks.{IsCutOff, IsTaken};
 ghost use Rattle.papergrid_draw.specs.declared.error.DrawError.TheVariants.{Write};
 ghost use Rattle.papergrid_layout.specs.Tables.{HasSizes};
-ghost use Rattle.papergrid_grid.specs.Sized.{IsGridFault, cells_held, drawing_of_rows, parts_of, shape_told, texts_at};
+ghost use Rattle.papergrid_grid.specs.Sized.{IsGridFault, drawing_held, shape_told, texts_at};
 
 use crate::cells::RecordCells;
 use crate::color::AsANSIStr;
@@ -101,24 +101,19 @@ where
             (shape_told self.now.records.now).0 }
         requires columns { HasSizes (D.has_column self.now.dimension.now)
             (shape_told self.now.records.now).1 }
-        ensures picture { let parts = parts_of self.now.config.now
+        ensures picture { let d = drawing_held T.lines self.now.config.now
             (D.width_of self.now.dimension.now) (D.height_of self.now.dimension.now)
-            (shape_told self.now.records.now) in
-            OnOk result (WritesInCalls F.write_str_gives writer.old
-            (printed (drawing_of_rows T.lines parts (cells_held self.now.records.now)
-            (texts_at C.Color.texts C.color_at self.now.colors.now))) writer.new) }
-        ensures fault { let parts = parts_of self.now.config.now
+            self.now.records.now (texts_at C.Color.texts C.color_at self.now.colors.now) in
+            OnOk result (WritesInCalls F.write_str_gives writer.old (printed d) writer.new) }
+        ensures fault { let d = drawing_held T.lines self.now.config.now
             (D.width_of self.now.dimension.now) (D.height_of self.now.dimension.now)
-            (shape_told self.now.records.now) in
-            IfErr result (IsGridFault
-            (drawing_of_rows T.lines parts (cells_held self.now.records.now)
-            (texts_at C.Color.texts C.color_at self.now.colors.now))) }
-        ensures left { let parts = parts_of self.now.config.now
+            self.now.records.now (texts_at C.Color.texts C.color_at self.now.colors.now) in
+            IfErr result (IsGridFault d) }
+        ensures left { let d = drawing_held T.lines self.now.config.now
             (D.width_of self.now.dimension.now) (D.height_of self.now.dimension.now)
-            (shape_told self.now.records.now) in
-            IfErr result (IsLeftOff F.write_str_gives (λ _ _ _. ⊤) writer.old
-            (printed (drawing_of_rows T.lines parts (cells_held self.now.records.now)
-            (texts_at C.Color.texts C.color_at self.now.colors.now))) writer.new) }
+            self.now.records.now (texts_at C.Color.texts C.color_at self.now.colors.now) in
+            IfErr result
+            (IsLeftOff F.write_str_gives (λ _ _ _. ⊤) writer.old (printed d) writer.new) }
     {
         text_sized(
             alloc,
@@ -142,24 +137,20 @@ where
             (shape_told self.now.records.now).0 }
         requires columns { HasSizes (D.has_column self.now.dimension.now)
             (shape_told self.now.records.now).1 }
-        ensures picture { let parts = parts_of self.now.config.now
+        ensures picture { let d = drawing_held T.lines self.now.config.now
             (D.width_of self.now.dimension.now) (D.height_of self.now.dimension.now)
-            (shape_told self.now.records.now) in
-            OnOk result (IsTaken W.contents W.has_failed W.has_stalled sink.old
-            (printed (drawing_of_rows T.lines parts (cells_held self.now.records.now)
-            (texts_at C.Color.texts C.color_at self.now.colors.now))) sink.new) }
-        ensures fault { let parts = parts_of self.now.config.now
+            self.now.records.now (texts_at C.Color.texts C.color_at self.now.colors.now) in
+            OnOk result
+            (IsTaken W.contents W.has_failed W.has_stalled sink.old (printed d) sink.new) }
+        ensures fault { let d = drawing_held T.lines self.now.config.now
             (D.width_of self.now.dimension.now) (D.height_of self.now.dimension.now)
-            (shape_told self.now.records.now) in
-            IfErr result (IsGridFault
-            (drawing_of_rows T.lines parts (cells_held self.now.records.now)
-            (texts_at C.Color.texts C.color_at self.now.colors.now))) }
-        ensures left { let parts = parts_of self.now.config.now
+            self.now.records.now (texts_at C.Color.texts C.color_at self.now.colors.now) in
+            IfErr result (IsGridFault d) }
+        ensures left { let d = drawing_held T.lines self.now.config.now
             (D.width_of self.now.dimension.now) (D.height_of self.now.dimension.now)
-            (shape_told self.now.records.now) in
-            IfErr result (IsCutOff W.contents W.has_failed W.has_stalled sink.old
-            (printed (drawing_of_rows T.lines parts (cells_held self.now.records.now)
-            (texts_at C.Color.texts C.color_at self.now.colors.now))) sink.new) }
+            self.now.records.now (texts_at C.Color.texts C.color_at self.now.colors.now) in
+            IfErr result
+            (IsCutOff W.contents W.has_failed W.has_stalled sink.old (printed d) sink.new) }
     {
         write_sized(
             alloc,
@@ -183,18 +174,14 @@ where
             (shape_told self.now.records.now).0 }
         requires columns { HasSizes (D.has_column self.now.dimension.now)
             (shape_told self.now.records.now).1 }
-        ensures picture { let parts = parts_of self.now.config.now
+        ensures picture { let d = drawing_held T.lines self.now.config.now
             (D.width_of self.now.dimension.now) (D.height_of self.now.dimension.now)
-            (shape_told self.now.records.now) in
-            IfOk result (λ text. string_bytes text
-            ≡ printed (drawing_of_rows T.lines parts (cells_held self.now.records.now)
-            (texts_at C.Color.texts C.color_at self.now.colors.now))) }
-        ensures fault { let parts = parts_of self.now.config.now
+            self.now.records.now (texts_at C.Color.texts C.color_at self.now.colors.now) in
+            IfOk result (λ text. string_bytes text ≡ printed d) }
+        ensures fault { let d = drawing_held T.lines self.now.config.now
             (D.width_of self.now.dimension.now) (D.height_of self.now.dimension.now)
-            (shape_told self.now.records.now) in
-            IfErr result (IsGridFault
-            (drawing_of_rows T.lines parts (cells_held self.now.records.now)
-            (texts_at C.Color.texts C.color_at self.now.colors.now))) }
+            self.now.records.now (texts_at C.Color.texts C.color_at self.now.colors.now) in
+            IfErr result (IsGridFault d) }
         ensures works { IfErr result (λ e. e ≢ Write) }
     {
         string_sized(

@@ -1,4 +1,4 @@
-use Rattle.std.proofs.Common.{◌≡◌, ◌<◌, ◌∙◌, ap, arith, length, map, refl, sym}
+use Rattle.std.proofs.Common.{◌<◌, ◌∙◌, ap, arith, length, map, refl, sym}
 use Rattle.std.proofs.lemmas.List.{length-map}
 use Rattle.papergrid_text.specs.LineCache.{answered_lines}
 use Rattle.papergrid_text.specs.Text.{split_lines, with_width}

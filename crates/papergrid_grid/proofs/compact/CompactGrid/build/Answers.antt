@@ -1,57 +1,40 @@
-use Rattle.std.proofs.Common.{◌≡◌, arith, inr, length}
-use Rattle.std.specs.Prelude.{⊤}
-use Rattle.std.specs.Fmt.{WritesInCalls}
-use Rattle.std.proofs.lemmas.Result.{IfErr-weaker, err_from_is_err_and, on_ok_weaker}
-use Rattle.papergrid_draw.specs.Deliveries.{IsLeftOff}
-use Rattle.papergrid_draw.specs.Margins.{printed}
-use Rattle.papergrid_grid.specs.Sized.{IsGridFault, texts_at}
-use Rattle.papergrid_grid.proofs.CompactLemmas.{drawn_compact, left_as_it_was, refused}
-use Rattle.papergrid_grid.proofs.GridLemmas.{at_exit, unless_memory}
+use Rattle.std.proofs.Common.{◌≡◌, arith, length}
+use Rattle.std.proofs.lemmas.Result.{on_ok_weaker, err_from_is_err_and}
+use Rattle.papergrid_grid.specs.Compact.{IsCompactDrawing}
+use Rattle.papergrid_grid.specs.Sized.{texts_at}
+use Rattle.papergrid_grid.proofs.CompactLemmas.{compact_drawing, refused, unwritten}
+use Rattle.papergrid_grid.proofs.GridLemmas.{at_exit}
+use Rattle.papergrid_grid.proofs.PrintLemmas.{print-left, print-none}
 use Rattle.papergrid_grid.proofs.compact.CompactGrid.build.Goals as goal
 
-pub returns-in_err-table-clause-fault : goal.returns-in_err-table-clause-fault
-returns-in_err-table-clause-fault g c =
+pub returns-in_err-table-clause-unprinted : goal.returns-in_err-table-clause-unprinted
+returns-in_err-table-clause-unprinted g c =
     let grid = c.args.self in
+    let e = c.in_err-table.field-0.0 in
     at_exit c.from_residual.result _ _ (err_from_is_err_and c.from_residual.result c.from_residual.ensures.1)
+    (print-none (IsCompactDrawing g.R.Iter.Cell.AsStr.text (g.R.Records.tells grid.records) (g.R.Records.columns grid.records) grid.config
+    (g.D.Dimension.width_of grid.dimension.now) (texts_at g.C.Color.AsANSIStr.texts g.C.Colors.color_at grid.colors.now))
+    g.F.Write.write_str_gives c.args.writer.now e (unwritten g.R.Iter.Cell.AsStr.text (g.R.Records.tells grid.records) (g.R.Records.columns grid.records) grid.config
+    (g.D.Dimension.width_of grid.dimension.now) e c.in_err-table.ensures.fault)
     (refused g.R.Iter.Cell.AsStr.text (g.R.Records.tells grid.records) (g.R.Records.columns grid.records) grid.config
-    (g.D.Dimension.width_of grid.dimension.now) (texts_at g.C.Color.AsANSIStr.texts g.C.Colors.color_at grid.colors.now)
-    c.in_err-table.field-0.0 c.in_err-table.ensures.fault)
-
-pub returns-in_err-table-clause-left : goal.returns-in_err-table-clause-left
-returns-in_err-table-clause-left g c =
-    let grid = c.args.self in
-    at_exit c.from_residual.result _ _ (err_from_is_err_and c.from_residual.result c.from_residual.ensures.1)
-    (left_as_it_was g.R.Iter.Cell.AsStr.text (g.R.Records.tells grid.records) (g.R.Records.columns grid.records) grid.config
-    (g.D.Dimension.width_of grid.dimension.now) g.F.Write.write_str_gives c.args.writer.now
-    (texts_at g.C.Color.AsANSIStr.texts g.C.Colors.color_at grid.colors.now)
-    c.in_err-table.field-0.0 c.in_err-table.ensures.fault)
-
-pub returns-clause-fault : goal.returns-clause-fault
-returns-clause-fault g c =
-    let grid = c.args.self in
-    let count : c.len.result ≡ length c.in_ok-table.table.rows.items = omega arith in
-    IfErr-weaker c.text_sized.result _ _ (λ e is. unless_memory e
-    (drawn_compact g.R.Iter.Cell.AsStr.text (g.R.Records.tells grid.records) (g.R.Records.columns grid.records) grid.config
-    (g.D.Dimension.width_of grid.dimension.now) g.C.Color.AsANSIStr.texts g.C.Colors.color_at grid.colors.now c.in_ok-table.table _ _
-    (λ d. IsGridFault d e) c.in_ok-table.ensures.made count c.as_slice.ensures.value is))
-    c.text_sized.ensures.fault
+    (g.D.Dimension.width_of grid.dimension.now) (texts_at g.C.Color.AsANSIStr.texts g.C.Colors.color_at grid.colors.now) e c.in_err-table.ensures.fault))
 
 pub returns-clause-picture : goal.returns-clause-picture
 returns-clause-picture g c =
     let grid = c.args.self in
     let count : c.len.result ≡ length c.in_ok-table.table.rows.items = omega arith in
-    on_ok_weaker c.text_sized.result (λ is.
-    (drawn_compact g.R.Iter.Cell.AsStr.text (g.R.Records.tells grid.records) (g.R.Records.columns grid.records) grid.config
+    let is = compact_drawing g.R.Iter.Cell.AsStr.text (g.R.Records.tells grid.records) (g.R.Records.columns grid.records) grid.config
     (g.D.Dimension.width_of grid.dimension.now) g.C.Color.AsANSIStr.texts g.C.Colors.color_at grid.colors.now c.in_ok-table.table _ _
-    (λ d. WritesInCalls g.F.Write.write_str_gives c.args.writer.now (printed d) c.text_sized.new.writer) c.in_ok-table.ensures.made count c.as_slice.ensures.value is))
-    c.text_sized.ensures.picture
+    c.in_ok-table.ensures.made count c.as_slice.ensures.value in
+    on_ok_weaker c.text_sized.result (λ taken. (_, is, taken)) c.text_sized.ensures.picture
 
-pub returns-clause-left : goal.returns-clause-left
-returns-clause-left g c =
+pub returns-clause-unprinted : goal.returns-clause-unprinted
+returns-clause-unprinted g c =
     let grid = c.args.self in
     let count : c.len.result ≡ length c.in_ok-table.table.rows.items = omega arith in
-    IfErr-weaker c.text_sized.result _ _ (λ e is. inr
-    (drawn_compact g.R.Iter.Cell.AsStr.text (g.R.Records.tells grid.records) (g.R.Records.columns grid.records) grid.config
+    let is = compact_drawing g.R.Iter.Cell.AsStr.text (g.R.Records.tells grid.records) (g.R.Records.columns grid.records) grid.config
     (g.D.Dimension.width_of grid.dimension.now) g.C.Color.AsANSIStr.texts g.C.Colors.color_at grid.colors.now c.in_ok-table.table _ _
-    (λ d. IsLeftOff g.F.Write.write_str_gives (λ _ _ _. ⊤) c.args.writer.now (printed d) c.text_sized.new.writer e) c.in_ok-table.ensures.made count c.as_slice.ensures.value is))
-    c.text_sized.ensures.left
+    c.in_ok-table.ensures.made count c.as_slice.ensures.value in
+    print-left (IsCompactDrawing g.R.Iter.Cell.AsStr.text (g.R.Records.tells grid.records) (g.R.Records.columns grid.records) grid.config
+    (g.D.Dimension.width_of grid.dimension.now) (texts_at g.C.Color.AsANSIStr.texts g.C.Colors.color_at grid.colors.now))
+    _ is g.F.Write.write_str_gives c.args.writer.now c.text_sized.new.writer c.text_sized.result c.text_sized.ensures.fault c.text_sized.ensures.left

@@ -1,35 +1,36 @@
-use Rattle.std.proofs.Common.{◌≡◌, arith, length, string_bytes}
-use Rattle.std.proofs.lemmas.Result.{IfErr-weaker, IfOk-weaker, err_from_is_err_and}
-use Rattle.papergrid_draw.specs.Margins.{printed}
-use Rattle.papergrid_grid.specs.Sized.{IsGridFault, texts_at}
-use Rattle.papergrid_grid.proofs.CompactLemmas.{drawn_compact, refused}
-use Rattle.papergrid_grid.proofs.GridLemmas.{at_exit, unless_memory}
+use Rattle.std.proofs.Common.{◌≡◌, arith, length}
+use Rattle.std.proofs.lemmas.Result.{IfOk-weaker, err_from_is_err_and}
+use Rattle.papergrid_grid.specs.Compact.{IsCompactDrawing}
+use Rattle.papergrid_grid.specs.Sized.{texts_at}
+use Rattle.papergrid_grid.proofs.CompactLemmas.{compact_drawing, refused}
+use Rattle.papergrid_grid.proofs.GridLemmas.{at_exit}
+use Rattle.papergrid_grid.proofs.PrintLemmas.{print-fault}
 use Rattle.papergrid_grid.proofs.compact.CompactGrid.to_string.Goals as goal
 
 pub returns-in_err-table-clause-fault : goal.returns-in_err-table-clause-fault
 returns-in_err-table-clause-fault g c =
     let grid = c.args.self in
+    let e = c.in_err-table.field-0.0 in
     at_exit c.from_residual.result _ _ (err_from_is_err_and c.from_residual.result c.from_residual.ensures.1)
     (refused g.R.Iter.Cell.AsStr.text (g.R.Records.tells grid.records) (g.R.Records.columns grid.records) grid.config
-    (g.D.Dimension.width_of grid.dimension.now) (texts_at g.C.Color.AsANSIStr.texts g.C.Colors.color_at grid.colors.now)
-    c.in_err-table.field-0.0 c.in_err-table.ensures.fault)
-
-pub returns-clause-fault : goal.returns-clause-fault
-returns-clause-fault g c =
-    let grid = c.args.self in
-    let count : c.len.result ≡ length c.in_ok-table.table.rows.items = omega arith in
-    IfErr-weaker c.string_sized.result _ _ (λ e is. unless_memory e
-    (drawn_compact g.R.Iter.Cell.AsStr.text (g.R.Records.tells grid.records) (g.R.Records.columns grid.records) grid.config
-    (g.D.Dimension.width_of grid.dimension.now) g.C.Color.AsANSIStr.texts g.C.Colors.color_at grid.colors.now c.in_ok-table.table _ _
-    (λ d. IsGridFault d e) c.in_ok-table.ensures.made count c.as_slice.ensures.value is))
-    c.string_sized.ensures.fault
+    (g.D.Dimension.width_of grid.dimension.now) (texts_at g.C.Color.AsANSIStr.texts g.C.Colors.color_at grid.colors.now) e c.in_err-table.ensures.fault)
 
 pub returns-clause-picture : goal.returns-clause-picture
 returns-clause-picture g c =
     let grid = c.args.self in
     let count : c.len.result ≡ length c.in_ok-table.table.rows.items = omega arith in
-    IfOk-weaker c.string_sized.result _ _ (λ string is.
-    (drawn_compact g.R.Iter.Cell.AsStr.text (g.R.Records.tells grid.records) (g.R.Records.columns grid.records) grid.config
+    let is = compact_drawing g.R.Iter.Cell.AsStr.text (g.R.Records.tells grid.records) (g.R.Records.columns grid.records) grid.config
     (g.D.Dimension.width_of grid.dimension.now) g.C.Color.AsANSIStr.texts g.C.Colors.color_at grid.colors.now c.in_ok-table.table _ _
-    (λ d. string_bytes string ≡ printed d) c.in_ok-table.ensures.made count c.as_slice.ensures.value is))
-    c.string_sized.ensures.picture
+    c.in_ok-table.ensures.made count c.as_slice.ensures.value in
+    IfOk-weaker c.string_sized.result _ _ (λ text told. (_, is, told)) c.string_sized.ensures.picture
+
+pub returns-clause-fault : goal.returns-clause-fault
+returns-clause-fault g c =
+    let grid = c.args.self in
+    let count : c.len.result ≡ length c.in_ok-table.table.rows.items = omega arith in
+    let is = compact_drawing g.R.Iter.Cell.AsStr.text (g.R.Records.tells grid.records) (g.R.Records.columns grid.records) grid.config
+    (g.D.Dimension.width_of grid.dimension.now) g.C.Color.AsANSIStr.texts g.C.Colors.color_at grid.colors.now c.in_ok-table.table _ _
+    c.in_ok-table.ensures.made count c.as_slice.ensures.value in
+    print-fault (IsCompactDrawing g.R.Iter.Cell.AsStr.text (g.R.Records.tells grid.records) (g.R.Records.columns grid.records) grid.config
+    (g.D.Dimension.width_of grid.dimension.now) (texts_at g.C.Color.AsANSIStr.texts g.C.Colors.color_at grid.colors.now))
+    _ is c.string_sized.result c.string_sized.ensures.fault

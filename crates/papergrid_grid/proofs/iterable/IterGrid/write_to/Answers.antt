@@ -1,41 +1,32 @@
-use Rattle.std.proofs.Common.{◌≡◌, IfErr, OnOk, arith, inr, length, subst, sym}
-use Rattle.std.proofs.lemmas.Result.{IfErr-weaker, on_ok_weaker}
-use Rattle.papergrid_draw.specs.Margins.{printed}
-use Rattle.papergrid_draw.specs.Sinks.{IsCutOff, IsTaken}
+use Rattle.std.proofs.Common.{◌≡◌, arith, length, subst, sym}
+use Rattle.std.proofs.lemmas.Result.{on_ok_weaker}
 use Rattle.papergrid_layout.specs.Tables.{HasSizes}
-use Rattle.papergrid_grid.specs.Sized.{IsGridFault}
-use Rattle.papergrid_grid.proofs.GridLemmas.{drawn_texts, sized_rows, unless_memory}
+use Rattle.papergrid_grid.specs.Sized.{texts_at}
+use Rattle.papergrid_grid.specs.TextRows.{IsTextDrawing}
+use Rattle.papergrid_grid.proofs.GridLemmas.{sized_rows, text_drawing}
+use Rattle.papergrid_grid.proofs.PrintLemmas.{print-undrawn}
 use Rattle.papergrid_grid.proofs.iterable.IterGrid.write_to.Goals as goal
-
-pub returns-clause-fault : goal.returns-clause-fault
-returns-clause-fault g c =
-    let grid = c.args.self in
-    let count : c.len.result ≡ length c.in_ok-rows.rows.items = omega arith in
-    IfErr-weaker c.write_sized.result _ _ (λ e is. unless_memory e (_, c.in_ok-rows.ensures, is))
-    (drawn_texts g.R.Iter.Cell.AsStr.text g.C.Color.AsANSIStr.texts g.C.Colors.color_at grid.config.now
-    (g.D.Dimension.width_of grid.dimension.now) (g.D.Dimension.height_of grid.dimension.now)
-    (λ parts d. IfErr c.write_sized.result (IsGridFault d))
-    _ _ _ _ _ grid.colors.now count c.count_columns-columns.ensures c.as_slice.ensures.value c.write_sized.ensures.fault)
 
 pub returns-clause-picture : goal.returns-clause-picture
 returns-clause-picture g c =
     let grid = c.args.self in
     let count : c.len.result ≡ length c.in_ok-rows.rows.items = omega arith in
-    on_ok_weaker c.write_sized.result (λ is. (_, c.in_ok-rows.ensures, is))
-    (drawn_texts g.R.Iter.Cell.AsStr.text g.C.Color.AsANSIStr.texts g.C.Colors.color_at grid.config.now
-    (g.D.Dimension.width_of grid.dimension.now) (g.D.Dimension.height_of grid.dimension.now)
-    (λ parts d. OnOk c.write_sized.result (IsTaken g.W.Sink.contents g.W.Sink.has_failed g.W.Sink.has_stalled c.args.sink.now (printed d) c.write_sized.new.sink))
-    _ _ _ _ _ grid.colors.now count c.count_columns-columns.ensures c.as_slice.ensures.value c.write_sized.ensures.picture)
+    let is = text_drawing g.R.Iter.Cell.AsStr.text g.C.Color.AsANSIStr.texts g.C.Colors.color_at grid.config.now
+    (g.D.Dimension.width_of grid.dimension.now) (g.D.Dimension.height_of grid.dimension.now) (g.R.Records.tells grid.records)
+    _ _ _ _ _ grid.colors.now count c.count_columns-columns.ensures c.as_slice.ensures.value c.in_ok-rows.ensures in
+    on_ok_weaker c.write_sized.result (λ taken. (_, is, taken)) c.write_sized.ensures.picture
 
-pub returns-clause-left : goal.returns-clause-left
-returns-clause-left g c =
+pub returns-clause-undrawn : goal.returns-clause-undrawn
+returns-clause-undrawn g c =
     let grid = c.args.self in
     let count : c.len.result ≡ length c.in_ok-rows.rows.items = omega arith in
-    IfErr-weaker c.write_sized.result _ _ (λ e is. inr (_, c.in_ok-rows.ensures, is))
-    (drawn_texts g.R.Iter.Cell.AsStr.text g.C.Color.AsANSIStr.texts g.C.Colors.color_at grid.config.now
-    (g.D.Dimension.width_of grid.dimension.now) (g.D.Dimension.height_of grid.dimension.now)
-    (λ parts d. IfErr c.write_sized.result (IsCutOff g.W.Sink.contents g.W.Sink.has_failed g.W.Sink.has_stalled c.args.sink.now (printed d) c.write_sized.new.sink))
-    _ _ _ _ _ grid.colors.now count c.count_columns-columns.ensures c.as_slice.ensures.value c.write_sized.ensures.left)
+    let is = text_drawing g.R.Iter.Cell.AsStr.text g.C.Color.AsANSIStr.texts g.C.Colors.color_at grid.config.now
+    (g.D.Dimension.width_of grid.dimension.now) (g.D.Dimension.height_of grid.dimension.now) (g.R.Records.tells grid.records)
+    _ _ _ _ _ grid.colors.now count c.count_columns-columns.ensures c.as_slice.ensures.value c.in_ok-rows.ensures in
+    print-undrawn (IsTextDrawing g.R.Iter.Cell.AsStr.text (g.R.Records.tells grid.records) (g.R.Records.columns grid.records) grid.config.now
+    (g.D.Dimension.width_of grid.dimension.now) (g.D.Dimension.height_of grid.dimension.now) (texts_at g.C.Color.AsANSIStr.texts g.C.Colors.color_at grid.colors.now))
+    _ is g.W.Sink.contents g.W.Sink.has_failed g.W.Sink.has_stalled c.args.sink.now c.write_sized.new.sink c.write_sized.result
+    c.write_sized.ensures.fault c.write_sized.ensures.left
 
 pub write_sized-requires-clause-rows : goal.write_sized-requires-clause-rows
 write_sized-requires-clause-rows g c =
