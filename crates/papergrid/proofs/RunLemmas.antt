@@ -1,6 +1,7 @@
 -- What runs write, and how they end.
-use Rattle.std.proofs.Common.{◌≡◌, ◌≢◌, ◌⊎◌, ◌∙◌, ℕ, Bool, List, Option, Result, Ok, Err, inl, inr, refl, subst, sym}
-use Rattle.std.specs.Prelude.{◌↔◌, IfErr, OnOk}
+use Rattle.std.proofs.Common.{◌≡◌, ◌≢◌, ◌⊎◌, ◌∙◌, ℕ, Bool, List, Option, Result, Vec, Global, Ok, Err, ap, inl, inr, refl, subst, sym}
+use Rattle.std.specs.Prelude.{◌↔◌, IfErr, IfOk, IsErrOf, OnOk, take}
+use Rattle.std.specs.Io.KnownBytes.{Appends}
 use Rattle.papergrid_config.specs.declared.spanned.SpannedConfig.{SpannedConfig}
 use Rattle.papergrid_layout.specs.declared.sizing.Sizing.{Sizing}
 use Rattle.papergrid_draw.specs.Drawings.{Drawing}
@@ -8,6 +9,8 @@ use Rattle.papergrid_draw.specs.declared.error.DrawError.{DrawError}
 use Rattle.papergrid_draw.specs.declared.error.DrawError.TheVariants as draw_errors
 use Rattle.papergrid_grid.specs.Lined.{lined}
 use Rattle.papergrid_config.specs.Laws.{IsConfiguredBy}
+use Rattle.papergrid_script.specs.Outputs.{output_of, run_end_of}
+use Rattle.papergrid_script.specs.Runs.{HasRun, IsRunFault}
 use Rattle.papergrid_script.specs.Scripts.{Table, table_of}
 use Rattle.papergrid_script.specs.declared.answer.RunEnd.{RunEnd}
 use Rattle.papergrid_script.specs.declared.answer.RunEnd.TheVariants.{Done, Refused}
@@ -90,3 +93,43 @@ pub picture-run-of : (sizing : Sizing) (input : List ℕ) (told : Result Table �
     IsPictureOf sizing told end output → IsPictureRun sizing input end output
 unfolding IsPictureRun
 picture-run-of sizing input told is end output so = subst (λ t. IsPictureOf sizing t end output) (sym is) so
+
+-- a reader and a writer, by what they tell, and the input that a run kept in place of another one
+module _ {R W : Type 0} (remaining : R → Option (List ℕ)) (read_failed : R → Bool) (contents : W → Option (List ℕ)) (has_failed has_stalled : W → Bool)
+    (reader_old reader_new : R) (writer_old writer_new : W) (before input : Vec ℕ Global) where
+  abbrev Ran : Vec ℕ Global → Type 0
+  Ran old = HasRun remaining read_failed contents has_failed has_stalled reader_old reader_new writer_old writer_new old input
+
+  abbrev Broke : Vec ℕ Global → RunFault → Type 0
+  Broke old fault = IsRunFault remaining read_failed contents has_failed has_stalled reader_old reader_new writer_old writer_new old input fault
+
+  -- what the run leaves, where nobody sees what it kept
+  pub ran-unseen : (result : Result RunEnd RunFault) → OnOk result (Ran before) → OnOk result (Appends (contents writer_old) (contents writer_new) (output_of input.items)) →
+      IfOk result (λ end. end ≡ run_end_of input.items) →
+      IfOk result (λ end. (kept : Vec ℕ Global) × HasRun remaining read_failed contents has_failed has_stalled reader_old reader_new writer_old writer_new kept kept
+      × Appends (contents writer_old) (contents writer_new) (output_of kept.items) × (end ≡ run_end_of kept.items))
+  ran-unseen (Ok end) ran written ended = (
+    input,
+    record {
+      kept = ran.kept;
+      reader_works = ran.reader_works;
+      writer_works = ran.writer_works;
+      writer_moves = ran.writer_moves;
+    },
+    written,
+    ended,
+  )
+  ran-unseen (Err fault) ran written ended = tt
+
+  -- and of one that broke off
+  broke-unseen : (fault : RunFault) → Broke before fault → Broke input fault
+  broke-unseen run_faults.Read is = record { read = is.read; nothing = is.nothing; kept = refl }
+  broke-unseen run_faults.Memory is = record { reader_works = is.reader_works; writer_works = is.writer_works; writer_moves = is.writer_moves; kept = inl refl }
+  broke-unseen run_faults.Write is = record { reader_works = is.reader_works; write = is.write; kept = is.kept }
+
+  pub fault-unseen : (result : Result RunEnd RunFault) → IfErr result (Broke before) →
+      (IsErrOf result run_faults.Write → (n : ℕ) × Appends (contents writer_old) (contents writer_new) (take n (output_of input.items))) →
+      IfErr result (λ fault. (kept : Vec ℕ Global) × IsRunFault remaining read_failed contents has_failed has_stalled reader_old reader_new writer_old writer_new kept kept fault
+      × (fault ≡ run_faults.Write → (n : ℕ) × Appends (contents writer_old) (contents writer_new) (take n (output_of kept.items))))
+  fault-unseen (Ok end) broke begun = tt
+  fault-unseen (Err fault) broke begun = (input, broke-unseen fault broke, λ is. begun (ap Err is))

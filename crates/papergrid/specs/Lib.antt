@@ -1,4 +1,3 @@
 pub mod Layouts
 pub mod Pictures
-pub mod Runs
 pub mod ForProofs

@@ -1,10 +1,11 @@
 //! The whole run: read to the end, judge, write.
 
-ghost use Rattle.std.specs.Prelude.{◌≡◌, ◌⊎◌, ℕ, take, true, false, IfOk, IfSome, OnOk, IsErrOf};
-ghost use Rattle.std.specs.Io.KnownBytes.{Appends, IsAtEnd};
+ghost use Rattle.std.specs.Prelude.{◌≡◌, ℕ, Vec, take, false, IfErr, IfOk, IfSome, OnOk, IsErrOf};
+ghost use Rattle.std.specs.declared.alloc.Global.{Global};
+ghost use Rattle.std.specs.Io.KnownBytes.{Appends};
 ghost use Rattle.papergrid_script.specs.Outputs.{end_by, output_by, output_of, run_end_of};
-ghost use Rattle.papergrid.specs.Runs.{IsBrokenRun, IsWholeRun};
-ghost use Rattle.papergrid_script.specs.Inputs.{IsWholeInput};
+ghost use Rattle.papergrid_script.specs.Runs.{HasRun, IsRunFault};
+ghost use Rattle.papergrid_script.specs.declared.reading.RunFault.TheVariants.{Memory, Write};
 
 use papergrid_draw::transfer::{Sink, Source, write_all};
 use papergrid_layout::Sizing;
@@ -32,35 +33,28 @@ pub fn run<S: Source, W: Sink>(
     // Of a reader and a writer that had not failed.
     requires reader { S.has_failed reader.old ≡ false }
     requires writer { W.has_failed writer.old ≡ false }
-    // The input was read to its end, and what it means was written and nothing else.
-    ensures end { OnOk result (IsAtEnd (S.remaining reader.new)) }
+    // What the input means was written and nothing else.
     ensures written { OnOk result (IfSome (S.remaining reader.old) (λ input.
         Appends (W.contents writer.old) (W.contents writer.new) (output_of input))) }
     ensures answer { IfOk result (λ end. IfSome (S.remaining reader.old) (λ input.
         end ≡ run_end_of input)) }
-    // So of some input where the reader does not tell its bytes.
-    ensures some_input { IfOk result
-        (IsWholeRun (S.remaining reader.old) (S.remaining reader.new) (W.contents writer.old)
-        (W.contents writer.new)) }
-    // No read and no write failed, and each write of a piece that isn't empty took a byte.
-    ensures reader_works { OnOk result (S.has_failed reader.new ≡ false) }
-    ensures writer_works { OnOk result (W.has_failed writer.new ≡ false) }
-    ensures writer_moves { OnOk result (W.has_stalled writer.new ≡ W.has_stalled writer.old) }
-    // Which fault comes, and what was written then.
-    ensures read { IsErrOf result RunFault.Read → S.has_failed reader.new ≡ true }
-    ensures write { IsErrOf result RunFault.Write →
-        (W.has_failed writer.new ≡ true) ⊎ (W.has_stalled writer.old ≡ false →
-        W.has_stalled writer.new ≡ true) }
-    ensures memory { IsErrOf result RunFault.Memory → S.has_failed reader.new ≡ false }
-    ensures write_alone { IsErrOf result RunFault.Write → S.has_failed reader.new ≡ false }
-    ensures read_nothing { IsErrOf result RunFault.Read → writer.new ≡ writer.old }
-    ensures memory_nothing { IsErrOf result RunFault.Memory → writer.new ≡ writer.old }
-    ensures beginning { IsErrOf result RunFault.Write → IfSome (S.remaining reader.old) (λ input.
+    // So of some input where the reader does not tell its bytes. It was read to its end, and no read and no write failed. Each
+    // write of a piece that isn't empty took a byte, of a writer that had not stalled before.
+    ensures ran { IfOk result (λ end. (input : Vec ℕ Global)
+        × HasRun S.remaining S.has_failed W.contents W.has_failed W.has_stalled
+        reader.old reader.new writer.old writer.new input input
+        × Appends (W.contents writer.old) (W.contents writer.new) (output_of input.items)
+        × (end ≡ run_end_of input.items)) }
+    // Which fault comes, and what it leaves of the reader and of the writer.
+    ensures fault { IfErr result (λ fault. (input : Vec ℕ Global)
+        × IsRunFault S.remaining S.has_failed W.contents W.has_failed W.has_stalled
+        reader.old reader.new writer.old writer.new input input fault
+        × (fault ≡ Write → (n : ℕ) × Appends (W.contents writer.old) (W.contents writer.new)
+        (take n (output_of input.items)))) }
+    ensures memory_nothing { IsErrOf result Memory → writer.new ≡ writer.old }
+    ensures beginning { IsErrOf result Write → IfSome (S.remaining reader.old) (λ input.
         (n : ℕ) × Appends (W.contents writer.old) (W.contents writer.new)
         (take n (output_of input))) }
-    ensures some_beginning { IsErrOf result RunFault.Write →
-        IsBrokenRun (S.remaining reader.old) (S.remaining reader.new) (W.contents writer.old)
-        (W.contents writer.new) }
 {
     let mut input = Vec::new(alloc);
     run_keeping(alloc, Sizing::ByShares, reader, writer, &mut input)
@@ -85,35 +79,21 @@ pub fn run_keeping<S: Source, W: Sink>(
     // Of a reader and a writer that had not failed.
     requires reader { S.has_failed reader.old ≡ false }
     requires writer { W.has_failed writer.old ≡ false }
-    // The vector holds what was read, to the end of the reader; it is all where the reader tells its bytes.
-    ensures kept { OnOk result (IsWholeInput (S.remaining reader.old)
-        (S.remaining reader.new) input.new.items) }
-    // What that means was written and nothing else.
+    // What the input means was written and nothing else.
     ensures written { OnOk result (Appends (W.contents writer.old) (W.contents writer.new)
         (output_by sizing input.new.items)) }
     ensures answer { IfOk result (λ end. end ≡ end_by sizing input.new.items) }
-    // No read and no write failed, and each write of a piece that isn't empty took a byte.
-    ensures reader_works { OnOk result (S.has_failed reader.new ≡ false) }
-    ensures writer_works { OnOk result (W.has_failed writer.new ≡ false) }
-    ensures writer_moves { OnOk result (W.has_stalled writer.new ≡ W.has_stalled writer.old) }
-    // Which fault comes, what was written then, and what the vector holds.
-    ensures read { IsErrOf result RunFault.Read → S.has_failed reader.new ≡ true }
-    ensures write { IsErrOf result RunFault.Write →
-        (W.has_failed writer.new ≡ true) ⊎ (W.has_stalled writer.old ≡ false →
-        W.has_stalled writer.new ≡ true) }
-    ensures memory { IsErrOf result RunFault.Memory → S.has_failed reader.new ≡ false }
-    ensures write_alone { IsErrOf result RunFault.Write → S.has_failed reader.new ≡ false }
-    ensures read_nothing { IsErrOf result RunFault.Read → writer.new ≡ writer.old }
-    ensures read_kept { IsErrOf result RunFault.Read → input.new ≡ input.old }
-    ensures memory_nothing { IsErrOf result RunFault.Memory → writer.new ≡ writer.old }
-    ensures memory_kept { IsErrOf result RunFault.Memory →
-        (input.new ≡ input.old) ⊎ IsWholeInput (S.remaining reader.old)
-        (S.remaining reader.new) input.new.items }
-    ensures beginning { IsErrOf result RunFault.Write →
+    // The whole input is kept, and no read and no write failed. Each write of a piece that isn't empty took a byte, of a
+    // writer that had not stalled before.
+    ensures ran { OnOk result (HasRun S.remaining S.has_failed W.contents W.has_failed
+        W.has_stalled reader.old reader.new writer.old writer.new input.old input.new) }
+    // Which fault comes, and what it leaves of the reader, of the writer and of the vector.
+    ensures fault { IfErr result (IsRunFault S.remaining S.has_failed W.contents W.has_failed
+        W.has_stalled reader.old reader.new writer.old writer.new input.old input.new) }
+    ensures memory_nothing { IsErrOf result Memory → writer.new ≡ writer.old }
+    ensures beginning { IsErrOf result Write →
         (n : ℕ) × Appends (W.contents writer.old) (W.contents writer.new)
         (take n (output_by sizing input.new.items)) }
-    ensures write_kept { IsErrOf result RunFault.Write → IsWholeInput (S.remaining reader.old)
-        (S.remaining reader.new) input.new.items }
 {
     *input = read_all(alloc, reader)?;
     let (end, output) = answer(alloc, sizing, input.as_slice())?;

@@ -11,4 +11,4 @@ returns-clause-beginning g c =
     let contents = g.W.Sink.contents in
     begun c.run.result (contents c.args.writer.now) (contents c.run.new.writer) (output_of c.args.script.now)
     (λ e. let is = c.run.ensures.beginning e in rw c.new-source.ensures at is)
-    (λ e. ap contents (c.run.ensures.memory_nothing e)) (λ e. ap contents (c.run.ensures.read_nothing e))
+    (λ e. ap contents (c.run.ensures.memory_nothing e)) (λ e. let fault = rw e at c.run.ensures.fault in ap contents fault.1.nothing)
