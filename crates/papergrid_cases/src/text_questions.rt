@@ -7,8 +7,8 @@ use papergrid_text::string::{
     count_tabs, get_char_width, get_line_width, get_lines, get_string_width, get_text_dimension,
     get_text_width, replace_tab,
 };
+use papergrid_text::width::{count_printable, width};
 use papergrid_text::{Cell, StrWithWidth, Text};
-use papergrid_width::{count_printable, width};
 use std::alloc::{AllocError, Global};
 use std::borrow::CowStr;
 use std::convert::AsStr;

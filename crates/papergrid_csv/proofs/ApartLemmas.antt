@@ -18,13 +18,13 @@ use Rattle.unicode_width.specs.Kind.{is_ligature_transparent, is_text_presentati
 use Rattle.unicode_width.specs.Width.{Reading, alone, before_alef, if_kept, in_context, is_emoji, is_lam, joins, past_emoji, past_selectors, plain, read_before, step, str_width}
 use Rattle.unicode_width.proofs.Computing.{unicode_width}
 use Rattle.unicode_width.proofs.KindLemmas.{is_ligature_transparent_stepped}
-use Rattle.papergrid_width.proofs.RangeLemmas.{AllPass, Ones, Twos, all_pass, has_kind, kind_in, own, passes, ranges_of}
+use Rattle.papergrid_text.proofs.RangeLemmas.{AllPass, Ones, Twos, all_pass, has_kind, kind_in, own, passes, ranges_of}
 use Rattle.papergrid_text.specs.Separators.{is_separator}
 use Rattle.papergrid_text.proofs.SeparatorLemmas.{separates}
 use Rattle.papergrid_text.proofs.TrimLemmas.{read-shifted}
 use Rattle.papergrid_text.proofs.Widths.{str_width-nil}
 use Rattle.papergrid_csv.specs.ForProofs.Cuts.{StandsApart, is_apart, is_narrow_letter, is_wide_letter}
-use Rattle.papergrid_width.proofs.RunLemmas.{read_append}
+use Rattle.papergrid_text.proofs.RunLemmas.{read_append}
 
 ellipsis-read : step false 0x2026 (0, plain) ≡ (1, plain)
 unfolding unicode_width

@@ -14,8 +14,8 @@ use Rattle.std.proofs.lemmas.List.Sums.{prefix_len-le-length}
 use Rattle.std.proofs.lemmas.Str.{IsCharBoundary-at_seam, IsCharBoundary-start, IsUtf8-from_ascii, IsUtf8-past_char, chars-IsAscii, chars-append, encodes-IsAscii, encodes-append, encodes-chars}
 use Rattle.unicode_width.specs.Width.{str_width}
 use Rattle.unicode_width.proofs.Rules.{str_width-printable}
-use Rattle.papergrid_width.proofs.PrintableLemmas.{ascii, front_printable, width-printable}
-use Rattle.papergrid_width.proofs.SimpleLemmas.{cut_past}
+use Rattle.papergrid_text.proofs.PrintableLemmas.{ascii, front_printable, width-printable}
+use Rattle.papergrid_text.proofs.SimpleLemmas.{cut_past}
 use Rattle.papergrid_text.specs.Text.{split_lines, width_of}
 use Rattle.papergrid_text.proofs.Printable.{one_line}
 use Rattle.papergrid_text.proofs.Splits.{is_split}

@@ -11,7 +11,7 @@ ghost use Rattle.papergrid_csv.specs.ForProofs.Cuts.{AddsLine, IsCutAt, is_apart
 use bumpalo::Bump;
 use bumpalo::collections::into_bump_str;
 use papergrid_text::string::get_lines;
-use papergrid_width::{count_printable, is_printable, width};
+use papergrid_text::width::{count_printable, is_printable, width};
 use std::alloc::AllocError;
 
 /// A text of which each line that is wider than so many columns is cut: its first characters stay, and an ellipsis

@@ -7,7 +7,7 @@ ghost use Rattle.papergrid_csv.specs.ForProofs.Escapes.{after_backslash};
 use crate::reading::{Format, Reading};
 use bumpalo::Bump;
 use bumpalo::collections::into_bump_str;
-use papergrid_width::is_printable;
+use papergrid_text::width::is_printable;
 use std::alloc::AllocError;
 
 /// A field as it is shown, in the arena: what it stands for, in which control characters and those that turn the

@@ -5,7 +5,7 @@ ghost use Rattle.papergrid_csv.specs.Rows.{row_texts};
 ghost use Rattle.papergrid_csv.specs.ForProofs.Cuts.{HasLinesWithin};
 
 use papergrid_text::string::get_lines;
-use papergrid_width::{is_printable, width};
+use papergrid_text::width::{is_printable, width};
 
 /// The greatest width of a line of a field of these rows, in columns.
 pub fn widest_line(rows: &[Vec<&str>]) -> usize

@@ -9,7 +9,7 @@ use Rattle.std.proofs.lemmas.Bool.{and_parts}
 use Rattle.std.proofs.lemmas.Bool.Decides.{nat_tests}
 use Rattle.std.proofs.lemmas.List.Elements.{All-nil, All-cons}
 use Rattle.std.proofs.lemmas.List.Splits.{slice_split_none}
-use Rattle.papergrid_width.proofs.PrintableLemmas.{width-printable}
+use Rattle.papergrid_text.proofs.PrintableLemmas.{width-printable}
 use Rattle.papergrid_text.specs.Text.{width_of, greatest_width, split_lines, text_width}
 
 no_newline : (b : ℕ) → is_in_range 0x20 0x7E b ≡ true → (b == 10) ≡ false

@@ -11,10 +11,10 @@ use Rattle.unicode_width.specs.declared.state.After.TheVariants.{Nothing, LineFe
 use Rattle.unicode_width.specs.declared.state.State.{State}
 use Rattle.unicode_width.specs.Width.{Reading, alone, before_alef, before_joiner, if_kept, in_context, is_emoji, is_emoji_variation_base, is_lam, joins, past_emoji, past_selectors, plain, read_before, step, str_width}
 use Rattle.unicode_width.proofs.Computing.{unicode_width}
-use Rattle.papergrid_width.proofs.RangeLemmas.{Ones, has_kind, line_kind, own_alone}
+use Rattle.papergrid_text.proofs.RangeLemmas.{Ones, has_kind, line_kind, own_alone}
 use Rattle.papergrid_text.specs.Separators.{IsSeparator, begins_keycap, is_separator}
 use Rattle.papergrid_text.proofs.TrimLemmas.{of_range, read-shifted}
-use Rattle.papergrid_width.proofs.RunLemmas.{read_append}
+use Rattle.papergrid_text.proofs.RunLemmas.{read_append}
 
 -- ---- printable ASCII
 

@@ -16,7 +16,7 @@ use Rattle.unicode_width.proofs.Rules.{str_width-append_simple, str_width-printa
 use Rattle.unicode_width.proofs.WidthLemmas.{read_before-printable}
 use Rattle.papergrid_text.specs.Text.{width_of}
 use Rattle.papergrid_text.proofs.ReadBack.{chars-back}
-use Rattle.papergrid_width.proofs.RunLemmas.{all_simple, all_spaces, read_append}
+use Rattle.papergrid_text.proofs.RunLemmas.{all_simple, all_spaces, read_append}
 
 -- ---- white space, character by character
 

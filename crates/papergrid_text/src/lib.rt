@@ -16,6 +16,7 @@ pub mod search;
 pub mod string;
 pub mod text;
 pub mod vec_records;
+pub mod width;
 
 pub use cell::Cell;
 pub use count::count_byte;

@@ -13,7 +13,7 @@ ghost use Rattle.papergrid_text.specs.Text.{split_lines, width_of, text_width, t
 
 use crate::count::count_byte;
 use crate::search::find_byte;
-use papergrid_width::{count_printable, is_printable, width, width_by_characters};
+use crate::width::{count_printable, is_printable, width, width_by_characters};
 use std::alloc::{AllocError, Global};
 use std::borrow::CowStr;
 use std::iter::Iterator;

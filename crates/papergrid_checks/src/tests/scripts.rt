@@ -1,4 +1,4 @@
-//! Scripts that have sizes, and why others have none.
+//! Scripts that have sizes, and why one has none. Why others have none is said by cases of `papergrid_sizes`.
 
 use crate::scripts::{answer_to, bad_line};
 use papergrid::config::Position;
@@ -21,33 +21,9 @@ pub const EXAMPLES: [(&[u8], Option<Reason>); 3] = [
     ),
 ];
 
-/// Others, each worked out by hand.
-const OTHERS: [(&[u8], Option<Reason>); 6] = [
-    (b"", None),
-    (
-        b"columns 1\n\ncolspn 0,0 2\nrwo\n",
-        Some(Reason::BadLine(3)),
-    ),
-    (b"cell a\n", Some(Reason::BadLine(1))),
-    // Two cells overflow the table, and the first by row is named, with its two rows and three
-    // columns.
-    (
-        b"columns 2\ncolspan 1,0 4\nrowspan 0,1 2\ncolspan 0,1 3\nrow\ncell a\ncell b\nrow\ncell c\n",
-        Some(Reason::OutOfTable(Position { row: 0, col: 1 }, (2, 3), (2, 2))),
-    ),
-    (
-        b"columns 2\nrowspan 0,1 5\nrow\ncell a\ncell b\n",
-        Some(Reason::OutOfTable(Position { row: 0, col: 1 }, (5, 1), (1, 2))),
-    ),
-    (
-        b"columns 1\nborder |\npad * 18446744073709551615 0 0 0\nrow\ncell\n",
-        Some(Reason::TooLarge),
-    ),
-];
-
-fn are_explained(alloc: Global, cases: &[(&[u8], Option<Reason>)]) -> bool {
+fn are_explained(alloc: Global) -> bool {
     let mut are = true;
-    for (script, reason) in cases {
+    for (script, reason) in &EXAMPLES {
         are = are && explain(alloc, Sizing::ByShares, *script) == Ok(*reason);
     }
     are
@@ -55,8 +31,7 @@ fn are_explained(alloc: Global, cases: &[(&[u8], Option<Reason>)]) -> bool {
 
 #[test]
 fn explained(rt: HostRuntime) {
-    assert!(rt; are_explained(rt.alloc(), &EXAMPLES));
-    assert!(rt; are_explained(rt.alloc(), &OTHERS));
+    assert!(rt; are_explained(rt.alloc()));
 }
 
 #[test]

@@ -2,7 +2,7 @@ use Rattle.std.proofs.Common.{◌≡◌, ◌∙◌, ◌+◌, ℕ, ap, arith, ref
 use Rattle.std.specs.Prelude.{IsUtf8}
 use Rattle.std.proofs.lemmas.List.{nil_from_length}
 use Rattle.std.specs.Str.Iter.{chars_rest}
-use Rattle.papergrid_width.proofs.SimpleLemmas.{cut_past}
+use Rattle.papergrid_text.proofs.SimpleLemmas.{cut_past}
 use Rattle.papergrid_csv.proofs.ApartLemmas.{apart}
 use Rattle.papergrid_csv.proofs.CutLemmas.{IsSoFar, goes-apart, goes-on, is-front, never-ends, next-boundary, so-far-front, stops}
 use Rattle.papergrid_csv.proofs.cutting.place_past_printable.Goals as goal

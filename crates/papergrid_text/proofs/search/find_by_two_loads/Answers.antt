@@ -1,6 +1,6 @@
 use Rattle.std.proofs.Common.{◌+◌, ◌||◌, ◌∙◌, not, sym, zero-add, arith}
 use Rattle.std.specs.Prelude.{◌==◌}
-use Rattle.papergrid_width.proofs.Lanes.{counted_few, counted_here, counted_last, counted_past}
+use Rattle.papergrid_text.proofs.Lanes.{counted_few, counted_here, counted_last, counted_past}
 use Rattle.papergrid_text.proofs.search.find_by_two_loads.Goals as goal
 
 pub returns-then-run : goal.returns-then-run

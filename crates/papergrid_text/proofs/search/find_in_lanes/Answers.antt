@@ -3,7 +3,7 @@ use Rattle.std.specs.Prelude.{◌==◌}
 use Rattle.std.proofs.lemmas.Simd.{zip2_of_maps, zip2_splat, length-chunk}
 use lib.Bits.{bit_or}
 use lib.Lanes.{top}
-use Rattle.papergrid_width.proofs.Lanes.{all_pass, first_other}
+use Rattle.papergrid_text.proofs.Lanes.{all_pass, first_other}
 use Rattle.papergrid_text.proofs.search.find_in_lanes.Goals as goal
 
 either_lane : (v w : Bool) → not (top 7 (bit_or (cond v 255 0) (cond w 255 0))) ≡ not (v || w)

@@ -1,5 +1,5 @@
 use Rattle.std.proofs.Common.{ap₂, ap, length, ◌∙◌, sym}
-use Rattle.papergrid_width.proofs.PrintableLemmas.{whole_printable}
+use Rattle.papergrid_text.proofs.PrintableLemmas.{whole_printable}
 use Rattle.papergrid_text.specs.Text.{greatest_width}
 use Rattle.papergrid_text.proofs.Printable.{one_line, one_width}
 use Rattle.papergrid_text.proofs.string.get_text_dimension.Goals as goal

@@ -4,7 +4,7 @@ use Rattle.std.proofs.lemmas.Str.{IsCharBoundary-after_ascii}
 use Rattle.std.specs.Int.{is_in_range}
 use Rattle.std.specs.List.{prefix_len}
 use Rattle.papergrid_text.proofs.Printable.{first_newline, one_line}
-use Rattle.papergrid_width.proofs.PrintableLemmas.{front_width, whole_printable, width-printable}
+use Rattle.papergrid_text.proofs.PrintableLemmas.{front_width, whole_printable, width-printable}
 use Rattle.papergrid_text.proofs.Splits.{split_first}
 use Rattle.papergrid_text.proofs.string.measure_first_line.Goals as goal
 
