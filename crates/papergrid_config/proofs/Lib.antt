@@ -10,3 +10,4 @@ pub mod GridLemmas
 pub mod ViewLemmas
 pub mod Reached
 pub mod SameLemmas
+pub mod Told
