@@ -1,6 +1,6 @@
 //! A value for each position, set by entity. Source: `config/spanned/entity_map.rs`.
 
-ghost use Rattle.std.specs.Prelude.{All, AllPairs, Any, true, false, List, ◌≡◌, ◌≢◌, ◌∷◌, [], map, length, IfOk, OnOk, OnErr, IsOk, IfErr, IsTrue, take, slice_get, IsSomeAnd, Some, if◌then◌else◌, filter, not, option_copied, ◌==◌, ◌<◌, ◌↔◌};
+ghost use Rattle.std.specs.Prelude.{All, AllPairs, Any, true, false, List, ◌≡◌, ◌≢◌, ◌∷◌, [], map, length, IfOk, OnOk, OnErr, IsOk, IfErr, IsTrue, take, slice_get, IsSomeAnd, Some, if◌then◌else◌, filter, not, option_copied, nat_eq, ◌==◌, ◌<◌, ◌↔◌};
 ghost use Rattle.std.specs.Bool.{OnTrue, OnFalse};
 ghost use Rattle.std.specs.Fn.{FnReturnsAt};
 ghost use Rattle.std.specs.HashMap.{IsUnique, keys, values, get as map_get};
@@ -258,25 +258,32 @@ impl<T: Clone> EntityMap<T> {
                 self.rows.clear();
                 self.cells.clear();
                 self.global = value;
+                Ok(())
             }
             Entity::Column(col) => {
-                self.columns.reserve(1)?;
                 let crossings = crossings_of_column(self.alloc, &self.rows, col)?;
-                write_copies(self.alloc, &mut self.cells, crossings.as_slice(), &value)?;
-                put(&mut self.columns, col, value);
+                write_line(
+                    self.alloc,
+                    &mut self.columns,
+                    &mut self.cells,
+                    crossings,
+                    col,
+                    value,
+                )
             }
             Entity::Row(row) => {
-                self.rows.reserve(1)?;
                 let crossings = crossings_of_row(self.alloc, &self.columns, row)?;
-                write_copies(self.alloc, &mut self.cells, crossings.as_slice(), &value)?;
-                put(&mut self.rows, row, value);
+                write_line(
+                    self.alloc,
+                    &mut self.rows,
+                    &mut self.cells,
+                    crossings,
+                    row,
+                    value,
+                )
             }
-            Entity::Cell(row, col) => {
-                self.cells.reserve(1)?;
-                put(&mut self.cells, Position { row, col }, value);
-            }
+            Entity::Cell(row, col) => write(&mut self.cells, Position { row, col }, value),
         }
-        Ok(())
     }
 
     /// Makes the calls in order, up to one whose allocation fails: then the map is that of the
@@ -377,6 +384,32 @@ fn crossings_of_row<T>(
         .keys()
         .map(|col| Position { row, col: *col })
         .collect(alloc)
+}
+
+// Writes a value for a line, and a copy of it at each of its crossings, or changes nothing.
+fn write_line<T: Clone>(
+    alloc: Global,
+    lines: &mut HashMap<usize, T>,
+    cells: &mut HashMap<Position, T>,
+    crossings: Vec<Position>,
+    index: usize,
+    value: T,
+) -> Result<(), AllocError>
+    requires equal_clones { (x y : T) → T.is_clone x y → y ≡ x }
+    ensures ok { OnOk result (
+        HasAtEach nat_eq lines.new (λ q.
+        if nat_eq index q then Some value else map_get nat_eq lines.old q)
+        × HasAtEach position_eq cells.new (λ q.
+        if is_member position_eq crossings.items q then Some value
+        else map_get position_eq cells.old q)) }
+    ensures err { OnErr result (
+        HasAtEach nat_eq lines.new (map_get nat_eq lines.old)
+        × HasAtEach position_eq cells.new (map_get position_eq cells.old)) }
+{
+    lines.reserve(1)?;
+    write_copies(alloc, cells, crossings.as_slice(), &value)?;
+    put(lines, index, value);
+    Ok(())
 }
 
 // Writes a copy of the value at each of the places, or changes nothing.
