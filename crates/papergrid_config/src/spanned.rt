@@ -83,7 +83,7 @@ impl Drop for SpannedConfig {
             justification: _,
             justification_color: _,
             characters: _,
-            colors,
+            colors: _,
             horizontal_chars: _,
             vertical_chars: _,
             horizontal_colors: _,
@@ -94,7 +94,5 @@ impl Drop for SpannedConfig {
             margin_offset: _,
             missing: _,
         } = self;
-        // By a call, since the colours of the frame are many to drop one by one.
-        drop(colors);
     }
 }
