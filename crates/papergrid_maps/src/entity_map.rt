@@ -146,16 +146,27 @@ impl<T> EntityMap<T> {
         ensures yes { OnTrue result ((v : T) × HoldsValue self.now v × FnReturnsAt F.Fn f v true) }
         ensures no { OnFalse result ((v : T) → HoldsValue self.now v → FnReturnsAt F.Fn f v false) }
     {
+        self.any_held_by(&f)
+    }
+
+    // The same by a test that is lent.
+    fn any_held_by<F: Fn(&T) -> bool>(&self, f: &F) -> bool
+        requires { (lent : _) → HoldsValue self.now lent.now → F.pre f.now lent }
+        ensures yes { OnTrue result
+            ((v : T) × HoldsValue self.now v × FnReturnsAt F.Fn f.now v true) }
+        ensures no { OnFalse result
+            ((v : T) → HoldsValue self.now v → FnReturnsAt F.Fn f.now v false) }
+    {
         if f(&self.global) {
             return true;
         }
-        if any_value(&self.columns, &f) {
+        if any_value(&self.columns, f) {
             return true;
         }
-        if any_value(&self.rows, &f) {
+        if any_value(&self.rows, f) {
             return true;
         }
-        any_value(&self.cells, &f)
+        any_value(&self.cells, f)
     }
 
     /// What is stored for each entity, or out of memory.

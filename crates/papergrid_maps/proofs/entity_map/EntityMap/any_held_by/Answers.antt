@@ -2,7 +2,7 @@ use Rattle.std.proofs.Common.{◌≡◌, refl, subst}
 use Rattle.papergrid_values.specs.declared.entity.Entity.TheVariants.{Global}
 use Rattle.papergrid_maps.specs.StoredMap.{HoldsValue}
 use Rattle.papergrid_maps.proofs.AnyStored.{all_stored, stored_in_cells, stored_in_columns, stored_in_rows, on_false_map, on_true_map}
-use Rattle.papergrid_maps.proofs.entity_map.EntityMap.any_held.Goals as goal
+use Rattle.papergrid_maps.proofs.entity_map.EntityMap.any_held_by.Goals as goal
 
 pub returns-then-f-clause-yes : goal.returns-then-f-clause-yes
 returns-then-f-clause-yes g c = rw (← c.self.view_is)
