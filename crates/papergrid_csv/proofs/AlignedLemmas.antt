@@ -1,5 +1,5 @@
 -- Settings of the columns that a test picks, one column at a time.
-use Rattle.std.proofs.Common.{◌≡◌, ◌∙◌, ◌+◌, ◌-◌, ◌<◌, ◌++◌, ◌∷◌, [], ℕ, Bool, true, false, List, ap, append_assoc, arith, cond, drop, flat_map, length, map, slice_index_or, suc, sym}
+use Rattle.std.proofs.Common.{◌≡◌, ◌∙◌, ◌+◌, ◌-◌, ◌<◌, ◌≤◌, ◌++◌, ◌∷◌, [], ℕ, Bool, true, false, List, ap, append-nil, append_assoc, arith, cond, drop, flat_map, length, map, slice_index_or, suc, sym}
 use Rattle.std.proofs.lemmas.List.{drop_more}
 use Rattle.std.specs.List.{filter, range_with_len}
 
@@ -26,6 +26,12 @@ module _ {X : Type 0} (picks : ℕ → Bool) (setting : ℕ → X) where
       ap (λ l. l ++ of_rest (c + 1) n) is
       ∙ ap (λ l. now ++ l) (sym (ap (λ cs. map setting (filter picks cs)) (next-column c n below) ∙ ap (λ b. map setting (cond b (c ∷ filter picks (range_with_len (c + 1) (n - (c + 1)))) (filter picks (range_with_len (c + 1) (n - (c + 1)))))) passed))
       ∙ so_far
+
+  -- behind the last one
+  pub none-left : (c n : ℕ) (now whole : List X) → n ≤ c → now ++ of_rest c n ≡ whole → now ≡ whole
+  none-left c n now whole past so_far =
+      let none : n - c ≡ 0 = omega arith in
+      sym (append-nil now) ∙ ap (λ k. now ++ map setting (filter picks (range_with_len c k))) (sym none) ∙ so_far
 
 -- ---- lists of settings for each entry
 

@@ -210,6 +210,17 @@ module _ (columns : ℕ) (line segment rest : List ℕ) (taken before end : ℕ)
       pub next-boundary : IsCharBoundary segment n
       next-boundary = subst (IsCharBoundary segment) (sym n-long) (IsCharBoundary-at_seam segment (encode_utf8_all next_seen) left segment-split left-text)
 
+      -- neither is past the end of the line
+      pub next-within : (n ≤ length line) × (end + size ≤ length line)
+      next-within =
+          let whole = ap length segment-split in
+          let sum = length-append (encode_utf8_all next_seen) left in
+          let outer = ap length so.line_is in
+          let outer_sum = length-append (encode_utf8_all so.passed) segment in
+          let at = so.end_is in
+          let long = n-long in
+          (omega arith, omega arith)
+
       next-taken : take n segment ≡ encode_utf8_all next_seen
       next-taken = ap (λ k. take k segment) n-long ∙ ap (take (length (encode_utf8_all next_seen))) segment-split ∙ take-append_seam (encode_utf8_all next_seen) left
 

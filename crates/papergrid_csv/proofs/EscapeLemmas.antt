@@ -78,6 +78,20 @@ module _ (reading : Reading) where
         ∙ ap (λ b. (so.characters ++ c ∷ []) ++ without_escapes (held_before b rest)) (sym none);
   }
 
+  -- none yet
+  pub settled-none : (text : List ℕ) → text ≡ [] → IsSettled reading [] false text
+  settled-none text none = record { characters = []; is = none; left = λ rest. refl }
+
+  -- a backslash, which is held
+  pub settled-held : (yielded text : List ℕ) (held : Bool) (c : ℕ) → held ≡ false → c ≡ 0x5C → IsSettled reading yielded held text → IsSettled reading (yielded ++ c ∷ []) true text
+  settled-held yielded text held c none same so = record {
+    characters = so.characters;
+    is = so.is;
+    left = λ rest.
+        ap without_escapes (append_assoc yielded (c ∷ []) rest) ∙ so.left (c ∷ rest) ∙ ap (λ b. so.characters ++ without_escapes (held_before b (c ∷ rest))) none
+        ∙ ap (λ d. so.characters ++ without_escapes (d ∷ rest)) same;
+  }
+
   -- one after a backslash that was held
   pub settled-pair : (yielded old new : List ℕ) (held : Bool) (c : ℕ) → held ≡ true → IsSettled reading yielded held old →
       new ≡ old ++ encode_utf8_all (flat_map (spelled_character reading) (after_backslash c)) → IsSettled reading (yielded ++ c ∷ []) false new

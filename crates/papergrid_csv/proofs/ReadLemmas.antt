@@ -53,6 +53,16 @@ pub filled-more : (row texts more : List (List ℕ)) (n m : ℕ) → texts ≡ r
 filled-more row texts more n m so_far is next =
     is ∙ ap (λ t. t ++ [] ∷ []) so_far ∙ append_assoc row (replicate n []) ([] ∷ []) ∙ ap (λ t. row ++ t) (replicate_more n [] ∙ ap (λ k. replicate k []) (sym next))
 
+-- one row more
+pub filled-next : (columns : ℕ) (yielded : List (Vec (Bor (List ℕ)) Global)) (row added : Vec (Bor (List ℕ)) Global) (old new : List (Vec (Bor (List ℕ)) Global)) →
+    map row_texts old ≡ map (with_empty_fields columns) (map row_texts yielded) → new ≡ old ++ added ∷ [] → row_texts added ≡ with_empty_fields columns (row_texts row) →
+    map row_texts new ≡ map (with_empty_fields columns) (map row_texts (yielded ++ row ∷ []))
+filled-next columns yielded row added old new so is filled =
+    ap (map row_texts) is ∙ map-append row_texts old (added ∷ []) ∙ ap (λ l. l ++ row_texts added ∷ []) so
+    ∙ ap (λ texts. map (with_empty_fields columns) (map row_texts yielded) ++ texts ∷ []) filled
+    ∙ sym (map-append (with_empty_fields columns) (map row_texts yielded) (row_texts row ∷ []))
+    ∙ ap (map (with_empty_fields columns)) (sym (map-append row_texts yielded (row ∷ [])))
+
 -- ---- records that are as long as the first
 
 long-push : (first fields : List (List ℕ)) (records : List (List (List ℕ))) → All (λ r. length r ≡ length first) records → length fields ≡ length first →

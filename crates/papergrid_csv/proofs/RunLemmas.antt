@@ -79,15 +79,14 @@ unfitted-of (Some junctions) settings plain shape e told is = (plain, told, is)
 
 -- ---- rows
 
--- by what settings are, and rows that are lent
+-- by rows that are lent
 pub rows-run-of : (request : Request) (columns : ℕ) (rows : List (List (List ℕ))) → IsFree request rows → (held : Vec (Vec (Bor (List ℕ)) Global) Global) → AreCut request.cut rows (held_texts held) →
-    (lent : List (Vec (Bor (List ℕ)) Global)) → lent ≡ held.items → (settings : List Setting) → settings ≡ settings_of request columns rows →
-    (end : CsvEnd) (output : List ℕ) → IsSettingsRun request settings (length lent, columns) columns (map row_texts lent) end output → IsRowsRun request columns rows end output
-rows-run-of request columns rows free held cut lent same_rows settings same_settings end output so =
+    (lent : List (Vec (Bor (List ℕ)) Global)) → lent ≡ held.items →
+    (end : CsvEnd) (output : List ℕ) → IsSettingsRun request (settings_of request columns rows) (length lent, columns) columns (map row_texts lent) end output → IsRowsRun request columns rows end output
+rows-run-of request columns rows free held cut lent same_rows end output so =
     let same : map row_texts lent ≡ held_texts held = ap (map row_texts) same_rows in
     let counted : length lent ≡ length rows = sym (length-map lent row_texts) ∙ ap length same ∙ shown-length request.cut rows (held_texts held) cut in
-    let by_settings = subst (λ s. IsSettingsRun request s (length lent, columns) columns (map row_texts lent) end output) same_settings so in
-    let by_shape = subst (λ n. IsSettingsRun request (settings_of request columns rows) (n, columns) columns (map row_texts lent) end output) counted by_settings in
+    let by_shape = subst (λ n. IsSettingsRun request (settings_of request columns rows) (n, columns) columns (map row_texts lent) end output) counted so in
     Free (held_texts held) free cut (subst (λ t. IsSettingsRun request (settings_of request columns rows) (length rows, columns) columns t end output) same by_shape)
 
 -- ---- an input

@@ -109,12 +109,13 @@ fn place_past_printable(columns: usize, line: &str, printable: usize) -> usize
     let (mut segment, mut taken, mut before) = (line, printable, 0usize);
     let mut end = printable;
     for c in line[printable..].chars() {
-        let next = taken + c.len_utf8();
+        let size = c.len_utf8();
+        let next = taken + size;
         let width = before.saturating_add(width(&segment[..next]));
         if columns <= width {
             return end;
         }
-        end += c.len_utf8();
+        end += size;
         taken = next;
         if stands_apart(c) {
             segment = &segment[next..];

@@ -109,24 +109,50 @@ fn shown_records<'t>(
     ensures shown { IfOk result (λ shown. AreShownFields reading input.now (held_texts shown)) }
     ensures unread { IfErr result (IsUnread reading input.now) }
 {
+    let mut shown = Vec::new(alloc);
+    show_all(alloc, texts, reading, input, &mut shown)?;
+    Ok(shown)
+}
+
+/// Adds them where there are none.
+fn show_all<'t>(
+    alloc: Global,
+    texts: &'t Bump,
+    reading: Reading,
+    input: &[u8],
+    shown: &mut Vec<Vec<&'t str>>,
+) -> Result<(), RowsError>
+    requires closed { IsUnclosed reading input.now → ⊥ }
+    requires none { shown.old.items ≡ [] }
+    ensures shown { OnOk result (AreShownFields reading input.now (held_texts shown.new)) }
+    ensures unread { IfErr result (IsUnread reading input.now) }
+{
     let mut reader = ReaderBuilder::new()
         .has_headers(false)
         .flexible(true)
         .delimiter(delimiter_of(reading.format))
         .quoting(has_quotes(reading.format))
         .from_reader(alloc, input);
-    let mut shown = Vec::new(alloc);
-    show_each(alloc, texts, reading, input, &mut reader, &mut shown)?;
-    Ok(shown)
+    let mut record = StringRecord::new(alloc);
+    show_each(
+        alloc,
+        texts,
+        reading,
+        input,
+        &mut reader,
+        &mut record,
+        shown,
+    )
 }
 
-/// Adds the fields of each record that a reader gives of a text, as they are shown.
+/// Adds the fields of each record that a reader gives of a text, as they are shown. Each is read into this record.
 fn show_each<'t>(
     alloc: Global,
     texts: &'t Bump,
     reading: Reading,
     input: &[u8],
     reader: &mut Reader<&[u8]>,
+    record: &mut StringRecord,
     shown: &mut Vec<Vec<&'t str>>,
 ) -> Result<(), RowsError>
     requires closed { IsUnclosed reading input.now → ⊥ }
@@ -134,15 +160,14 @@ fn show_each<'t>(
     ensures shown { OnOk result (AreShownFields reading input.now (held_texts shown.new)) }
     ensures unread { IfErr result (IsUnread reading input.now) }
 {
-    let mut record = StringRecord::new(alloc);
     // There are no more records than bytes.
     for _ in 0..=input.len() {
-        match reader.read_record(&mut record) {
+        match reader.read_record(record) {
             Ok(true) => {
-                if is_ragged(reading.strict, shown, &record) {
+                if is_ragged(reading.strict, shown, record) {
                     return Err(RowsError::Ragged(shown.len(), record.len()));
                 }
-                show_record(alloc, texts, reading, &record, shown)?;
+                show_record(alloc, texts, reading, record, shown)?;
             }
             Ok(false) => return Ok(()),
             Err(error) => return Err(unread(&error, shown.len())),

@@ -12,6 +12,7 @@ ghost use Rattle.papergrid_draw.specs.Sinks.{IsRefusal};
 ghost use Rattle.papergrid_grid.specs.Pictures.{texts_drawing};
 ghost use Rattle.papergrid_script.specs.Runs.{HasRun, IsRunFault};
 ghost use Rattle.papergrid_csv.specs.Pictures.{IsCsvRun, IsNarrow, IsWide};
+ghost use Rattle.papergrid_csv.specs.Requests.{settings_of};
 ghost use Rattle.papergrid_csv.specs.Rows.{row_texts, held_texts};
 ghost use Rattle.papergrid_csv.specs.declared.run.CsvEnd.TheVariants.{Drawn};
 ghost use Rattle.papergrid_csv.specs.ForProofs.Drawn.{AreFittingOf, IsConfigRun, IsFitFaultOf, IsFree, IsKeptBy, IsRowsRun, IsSettingsRun, IsTableRun, RunsCsv, end_refused, end_unread};
@@ -138,15 +139,31 @@ pub fn draw_rows<W: Sink>(
     if let Some(end) = judged(request, rows) {
         return Ok(end);
     }
-    let settings = settings(alloc, request, rows)?;
     match request.cut {
-        None => draw_records(alloc, request, settings, rows.columns, &rows.rows, writer),
+        None => draw_shown(alloc, request, rows, &rows.rows, writer),
         Some(columns) => {
             let texts = Bump::new(alloc);
             let shown = cut_rows(alloc, &texts, columns, &rows.rows)?;
-            draw_records(alloc, request, settings, rows.columns, &shown, writer)
+            draw_shown(alloc, request, rows, &shown, writer)
         }
     }
+}
+
+/// Writes the picture of these rows, which are shown so, if they have one.
+fn draw_shown<W: Sink>(
+    alloc: Global,
+    request: &Request,
+    rows: &Rows<'_>,
+    shown: &[Vec<&str>],
+    writer: &mut W,
+) -> Result<CsvEnd, RunFault>
+    ensures { RunsCsv W.contents W.has_failed W.has_stalled (IsSettingsRun request.now
+        (settings_of request.now rows.now.columns (held_texts rows.now.rows))
+        (length shown.now, rows.now.columns) rows.now.columns (map row_texts shown.now))
+        writer.old writer.new result }
+{
+    let settings = settings(alloc, request, rows)?;
+    draw_records(alloc, request, settings, rows.columns, shown, writer)
 }
 
 /// How a run ends that rows keep from their picture.

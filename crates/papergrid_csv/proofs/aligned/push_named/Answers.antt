@@ -5,7 +5,7 @@ use Rattle.papergrid_config.specs.declared.setting.Setting.TheVariants.{SetAlign
 use Rattle.papergrid_csv.specs.Numbers.{field_in}
 use Rattle.papergrid_csv.specs.Requests.{column_alignment, first_row}
 use Rattle.papergrid_csv.specs.Rows.{row_texts, held_texts}
-use Rattle.papergrid_csv.proofs.AlignedLemmas.{passed-next, picked-next}
+use Rattle.papergrid_csv.proofs.AlignedLemmas.{none-left, passed-next, picked-next}
 use Rattle.papergrid_csv.proofs.aligned.push_named.Goals as goal
 use Rattle.papergrid_csv.proofs.aligned.push_named.Goals.{then-eq+in_ok-push_aligned, else-eq}
 
@@ -23,3 +23,9 @@ loop-column-preserved c =
           (λ column. SetAlignmentHorizontal (Column column) (column_alignment (map row_texts c.args.below.now) column c.args.alignment)) c.loop-column.column c.args.rows.now.columns c.loop-column.settings.items _ _
           c.loop-column-test.true (sym same ∙ sym c.eq.ensures ∙ w.if-eq.false) (ap (λ s. s.items) w.settings-is) c.loop-column.invariant
     ]
+
+pub returns : goal.returns
+returns c =
+    none-left (λ column. bytes_eq (field_in column (first_row (held_texts c.args.rows.now.rows))) c.args.text.now)
+    (λ column. SetAlignmentHorizontal (Column column) (column_alignment (map row_texts c.args.below.now) column c.args.alignment)) c.loop-column.column c.args.rows.now.columns c.loop-column.settings.items _
+    c.loop-column-test.false c.loop-column.invariant

@@ -1,15 +1,23 @@
-use Rattle.std.proofs.Common.{◌≡◌, ◌≢◌, ◌∙◌, ap, arith, map-id, sym}
+use Rattle.std.proofs.Common.{◌≡◌, ◌≢◌, ◌∙◌, ap, arith, map-id, rules, sym}
 use Rattle.std.specs.Prelude.{string_bytes}
 use Rattle.std.proofs.lemmas.Bool.Decides.{nat_tests}
 use Rattle.std.proofs.lemmas.Iterator.{YieldsList-from_chars}
 use Rattle.std.proofs.lemmas.Iterator.Consumers.{YieldsList-end}
 use Rattle.papergrid_csv.specs.Spelling.{without_escapes}
-use Rattle.papergrid_csv.proofs.EscapeLemmas.{all_spelled, settled-all, settled-last, settled-pair, settled-plain}
+use Rattle.papergrid_csv.proofs.EscapeLemmas.{all_spelled, settled-all, settled-held, settled-last, settled-none, settled-pair, settled-plain}
 use Rattle.papergrid_csv.proofs.spelling.spell_meant.Goals as goal
 use Rattle.papergrid_csv.proofs.spelling.spell_meant.Goals.{then-held-2+in_ok-push_spelled-2, else-held-2}
 
+pub loop-c-init : goal.loop-c-init
+loop-c-init c = settled-none c.args.reading _ (search rules)
+
 pub loop-c-preserved-then-held : goal.loop-c-preserved-then-held
 loop-c-preserved-then-held c = settled-pair c.args.reading c.loop-c.yielded _ _ c.loop-c.held c.in-Some.c c.if-held.true c.loop-c.invariant c.in_ok-push_escaped.ensures
+
+pub loop-c-preserved-then-c-eq92 : goal.loop-c-preserved-then-c-eq92
+loop-c-preserved-then-c-eq92 c =
+    let same : c.in-Some.c ≡ 0x5C = omega arith in
+    settled-held c.args.reading c.loop-c.yielded _ c.loop-c.held c.in-Some.c c.if-held.false same c.loop-c.invariant
 
 pub loop-c-preserved : goal.loop-c-preserved
 loop-c-preserved c =

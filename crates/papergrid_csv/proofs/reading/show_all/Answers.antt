@@ -5,7 +5,7 @@ use Rattle.csv.specs.Records.{AllText}
 use Rattle.csv.specs.declared.parser.Config.{Config}
 use Rattle.papergrid_csv.specs.Rows.{row_texts}
 use Rattle.papergrid_csv.proofs.ReadLemmas.{config-known}
-use Rattle.papergrid_csv.proofs.reading.shown_records.Goals as goal
+use Rattle.papergrid_csv.proofs.reading.show_all.Goals as goal
 
 pub show_each-requires-clause-read : goal.show_each-requires-clause-read
 unfolding Reached
@@ -26,6 +26,6 @@ show_each-requires-clause-read c =
         records = [];
         read = (sym fr.state, refl);
         may = record { texts = All-nil AllText; long = λ _. tt };
-        are = ap (map row_texts) c.new-shown.ensures.items;
+        are = ap (map row_texts) c.requires.none;
       },
     )

@@ -4,7 +4,7 @@ use Rattle.std.proofs.lemmas.List.{take_all}
 use Rattle.papergrid_csv.specs.Cutting.{IsCut}
 use Rattle.papergrid_csv.specs.Rows.{row_texts, held_texts}
 use Rattle.papergrid_csv.proofs.ShownLemmas.{zip-next}
-use Rattle.papergrid_csv.proofs.shown.cut_rows.Goals as goal
+use Rattle.papergrid_csv.proofs.shown.push_rows.Goals as goal
 
 pub loop-row-preserved : goal.loop-row-preserved
 loop-row-preserved c =

@@ -4,7 +4,7 @@ use Rattle.std.proofs.lemmas.List.{take_all}
 use Rattle.papergrid_csv.specs.Cutting.{IsCut}
 use Rattle.papergrid_csv.specs.Rows.{row_texts}
 use Rattle.papergrid_csv.proofs.ShownLemmas.{zip-next}
-use Rattle.papergrid_csv.proofs.shown.cut_row.Goals as goal
+use Rattle.papergrid_csv.proofs.shown.push_fields.Goals as goal
 
 pub loop-field-preserved : goal.loop-field-preserved
 loop-field-preserved c =
