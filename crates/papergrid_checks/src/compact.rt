@@ -34,8 +34,8 @@ pub fn first_lines(
 ) -> Result<String, DrawError>
     ensures { IfErr result (λ e. e ≢ Write) }
 {
-    let mut dimension = CompactGridDimension::new(alloc);
-    dimension.estimate(IterRecords::new(rows, columns, None), &config)?;
     let records = IterRecords::new(rows, columns, None);
+    let mut dimension = CompactGridDimension::new(alloc);
+    dimension.estimate(records, &config)?;
     CompactGrid::new(records, config, &dimension).to_string(alloc)
 }

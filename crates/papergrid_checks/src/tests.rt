@@ -72,10 +72,7 @@ fn are_sizes(
     widths: &[usize],
     heights: &[usize],
 ) -> bool {
-    match found {
-        Ok(sizes) => sizes.0.as_slice() == widths && sizes.1.as_slice() == heights,
-        Err(_) => false,
-    }
+    found.is_ok_and(|sizes| sizes.0.as_slice() == widths && sizes.1.as_slice() == heights)
 }
 
 /// The first cell spans two columns and hides the second one; each text has two blanks beside it.
@@ -84,18 +81,13 @@ fn are_right(found: Result<(Vec<usize>, Vec<usize>), LayoutError>) -> bool {
 }
 
 fn has_sizes(alloc: Global, config: &SpannedConfig) -> bool {
-    match rows(alloc) {
-        Ok(rows) => are_right(sizes(alloc, &rows, config)),
-        Err(_) => false,
-    }
+    rows(alloc).is_ok_and(|rows| are_right(sizes(alloc, &rows, config)))
 }
 
 /// 19 columns of widths, and four of lines.
 fn has_total(alloc: Global, config: &SpannedConfig) -> bool {
-    match rows(alloc) {
-        Ok(rows) => { covering_width(alloc, IterRecords::new(&rows, 3, None), config) == Ok(23) }
-        Err(_) => false,
-    }
+    rows(alloc).is_ok_and(|rows| covering_width(alloc, IterRecords::new(&rows, 3, None), config)
+        == Ok(23))
 }
 
 /// Certified by the cells below the first one and by the third cell of the first row; not by a hidden one.

@@ -150,6 +150,12 @@ fn lacks_value(alloc: Global, option: &Listed) -> Misuse {
     said(format!(in alloc; "{name}: no value follows; it takes {value}"))
 }
 
+/// What is said of an option that stands with a value in one word, and takes none.
+fn takes_no_value(alloc: Global, option: &Listed) -> Misuse {
+    let name = option.name;
+    said(format!(in alloc; "{name}: takes no value"))
+}
+
 /// A misuse of which this is said, if there was memory for it.
 fn said(text: Result<String, AllocError>) -> Misuse {
     match text {
@@ -211,10 +217,7 @@ impl Draft {
             (Some(_), None) => return Ok(Some(option)),
             (Some(_), Some(value)) => self.set(&option, value)?,
             (None, None) => self.switch(option.choice),
-            (None, Some(_)) => {
-                let name = option.name;
-                return Err(said(format!(in self.alloc; "{name}: takes no value")));
-            }
+            (None, Some(_)) => return Err(takes_no_value(self.alloc, &option)),
         }
         Ok(None)
     }

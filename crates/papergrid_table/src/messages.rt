@@ -87,12 +87,21 @@ fn out_of_table(
     input: &[u8],
     position: Position,
 ) -> Result<String, AllocError> {
-    let (rows, columns) = rows_and_columns(alloc, request, input)?;
+    let shape = rows_and_columns(alloc, request, input)?;
     let Position { row, col } = position;
-    let Some(span) = last_at(&request.spans, position) else {
-        return format!(in alloc; "the cell at row {row}, column {col} is out of the table");
-    };
-    let option = span_text(alloc, span)?;
+    match last_at(&request.spans, position) {
+        Some(span) => needs_more(alloc, span, shape),
+        None => format!(in alloc; "the cell at row {row}, column {col} is out of the table"),
+    }
+}
+
+/// What is said of a span that needs more than these rows and columns.
+fn needs_more(
+    alloc: Global,
+    span: &Span,
+    (rows, columns): (usize, usize),
+) -> Result<String, AllocError> {
+    let Position { row, col } = span.position;
     let across = col as u128 + span.columns as u128;
     let down = row as u128 + span.rows as u128;
     let (needs, what, has) = if across > columns as u128 {
@@ -100,6 +109,7 @@ fn out_of_table(
     } else {
         (down, "rows", rows)
     };
+    let option = span_text(alloc, span)?;
     format!(in alloc;
         "{option}: the cell at row {row}, column {col} needs {needs} {what}, and the table has {has}"
     )
@@ -132,21 +142,32 @@ fn last_at(spans: &[Span], position: Position) -> Option<&Span> {
 /// What is said of a position that two spans cover.
 fn not_tiled(alloc: Global, request: &Request, position: Position) -> Result<String, AllocError> {
     let Position { row, col } = position;
-    let mut first = None;
-    for span in &request.spans {
-        if !covers(span, position) {
-            continue;
-        }
-        let Some(before) = first else {
-            first = Some(span);
-            continue;
-        };
-        if span.position != before.position {
-            let (later, earlier) = (span_text(alloc, span)?, span_text(alloc, before)?);
-            return format!(in alloc; "{later}: overlaps {earlier} at row {row}, column {col}");
+    match overlap_at(&request.spans, position) {
+        Some((later, earlier)) => overlaps(alloc, later, earlier, position),
+        None => {
+            format!(in alloc; "spans overlap at row {row}, column {col}, or leave it to no cell")
         }
     }
-    format!(in alloc; "spans overlap at row {row}, column {col}, or leave it to no cell")
+}
+
+/// What is said of a span that overlaps an earlier one at a position.
+fn overlaps(
+    alloc: Global,
+    later: &Span,
+    earlier: &Span,
+    position: Position,
+) -> Result<String, AllocError> {
+    let Position { row, col } = position;
+    let (later, earlier) = (span_text(alloc, later)?, span_text(alloc, earlier)?);
+    format!(in alloc; "{later}: overlaps {earlier} at row {row}, column {col}")
+}
+
+/// The first span that covers a position, after the first one that begins at another: the later one first.
+fn overlap_at(spans: &[Span], position: Position) -> Option<(&Span, &Span)> {
+    let mut covering = spans.iter().filter(|span| covers(span, position));
+    let earlier = covering.next()?;
+    let later = covering.find(|span| span.position != earlier.position)?;
+    Some((later, earlier))
 }
 
 /// Whether a position is in the rectangle of a span.

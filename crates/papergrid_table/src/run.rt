@@ -169,21 +169,21 @@ fn run<R: Read + Drop, W: Write>(
     let request = &mut wanted.request;
     match wanted.kind {
         Kind::Script => {
-            let end = run_table(alloc, request.sizing, &mut source, &mut writer, input)?;
-            Ok(End::OfScript(end))
+            run_table(alloc, request.sizing, &mut source, &mut writer, input).map(End::OfScript)
         }
         Kind::Json => {
-            let end = run_document(alloc, request.sizing, &mut source, &mut writer, input)?;
-            Ok(End::OfDocument(end))
+            run_document(alloc, request.sizing, &mut source, &mut writer, input).map(
+                End::OfDocument,
+            )
         }
         _ => {
             let end = match wanted.width {
-                None => run_csv(alloc, request, &mut source, &mut writer, input)?,
+                None => run_csv(alloc, request, &mut source, &mut writer, input),
                 Some(width) => {
-                    run_csv_within(alloc, width, request, &mut source, &mut writer, input)?
+                    run_csv_within(alloc, width, request, &mut source, &mut writer, input)
                 }
             };
-            Ok(End::OfText(end))
+            end.map(End::OfText)
         }
     }
 }

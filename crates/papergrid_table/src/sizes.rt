@@ -16,14 +16,27 @@ pub fn certified(
     input: &[u8],
 ) -> Result<Option<PerDirection<Solved>>, AllocError> {
     let texts = Bump::new(alloc);
-    let Some(rows) = shown_rows(alloc, &texts, request, input)? else {
-        return Ok(None);
-    };
-    let Rows { columns, rows } = rows;
+    match shown_rows(alloc, &texts, request, input)? {
+        Some(rows) => certified_of(alloc, request, rows),
+        None => Ok(None),
+    }
+}
+
+/// The same of the table of rows.
+fn certified_of(
+    alloc: Global,
+    request: &Request,
+    Rows { columns, rows }: Rows<'_>,
+) -> Result<Option<PerDirection<Solved>>, AllocError> {
+    let config = configuration(alloc, request, rows.len())?;
     let count = rows.len();
-    let config = configuration(alloc, request, count)?;
     let records = VecRecords::with_size(rows, count, columns);
-    match certify(alloc, &records, &config, request.sizing) {
+    unless_refused(certify(alloc, &records, &config, request.sizing))
+}
+
+/// What was found, if a table has it.
+fn unless_refused<T>(found: Result<T, LayoutError>) -> Result<Option<T>, AllocError> {
+    match found {
         Ok(found) => Ok(Some(found)),
         Err(LayoutError::Memory(error)) => Err(error),
         Err(_) => Ok(None),
@@ -37,17 +50,31 @@ pub fn shown_rows<'t>(
     request: &Request,
     input: &[u8],
 ) -> Result<Option<Rows<'t>>, AllocError> {
-    let Some(mut rows) = whole_rows(alloc, texts, request, input)? else {
-        return Ok(None);
-    };
-    if let Some(columns) = request.cut {
-        for row in rows.rows.iter_mut() {
-            for text in row.iter_mut() {
-                *text = cut(texts, columns, text)?;
-            }
-        }
+    let mut shown = whole_rows(alloc, texts, request, input)?;
+    if let (Some(rows), Some(columns)) = (&mut shown, request.cut) {
+        cut_rows(texts, columns, &mut rows.rows)?;
     }
-    Ok(Some(rows))
+    Ok(shown)
+}
+
+/// Cuts the fields of rows to so many columns.
+fn cut_rows<'t>(
+    texts: &'t Bump,
+    columns: usize,
+    rows: &mut [Vec<&'t str>],
+) -> Result<(), AllocError> {
+    for row in rows {
+        cut_row(texts, columns, row)?;
+    }
+    Ok(())
+}
+
+/// The same of a row.
+fn cut_row<'t>(texts: &'t Bump, columns: usize, row: &mut [&'t str]) -> Result<(), AllocError> {
+    for text in row {
+        *text = cut(texts, columns, text)?;
+    }
+    Ok(())
 }
 
 /// The rows of a text, each field whole, if it has any.

@@ -5,6 +5,7 @@ use crate::sizes::{certified, shown_rows, text_at};
 use bumpalo::Bump;
 use papergrid::util::string::get_text_width;
 use papergrid_csv::{Request, Rows};
+use papergrid_layout::Solved;
 use papergrid_script::program::shown;
 use papergrid_values::Position;
 use std::alloc::{AllocError, Global};
@@ -32,24 +33,44 @@ pub fn too_wide(
     let mut text = format!(in alloc;
         "{name}: the table is {width} columns wide, and --max-width allows {most}"
     )?;
-    let Some(found) = certified(alloc, request, input)? else {
-        return Ok(text);
-    };
-    if let Some(witness) = &found.columns.certificate {
-        name_cells(
-            alloc,
-            &mut text,
-            request,
-            input,
-            (witness.as_slice(), width),
-        )?;
-    }
-    if request.spans.is_empty() {
-        if let Some(columns) = cut_for(request, found.columns.sizes.as_slice(), width, most) {
-            write!(text, "; --cut {columns} would fit")?;
-        }
-    }
+    add_what_helps(alloc, &mut text, request, input, (width, most))?;
     Ok(text)
+}
+
+/// Adds which cells make a table as wide as it is, and where to cut, where sizes are found.
+fn add_what_helps(
+    alloc: Global,
+    text: &mut String,
+    request: &Request,
+    input: &[u8],
+    (width, most): (usize, usize),
+) -> Result<(), AllocError> {
+    match certified(alloc, request, input)? {
+        Some(found) => {
+            add_cells_and_cut(alloc, text, request, input, (&found.columns, width, most))
+        }
+        None => Ok(()),
+    }
+}
+
+/// The same by the widths that were found.
+fn add_cells_and_cut(
+    alloc: Global,
+    text: &mut String,
+    request: &Request,
+    input: &[u8],
+    (widths, width, most): (&Solved, usize, usize),
+) -> Result<(), AllocError> {
+    if let Some(witness) = &widths.certificate {
+        name_cells(alloc, text, request, input, (witness.as_slice(), width))?;
+    }
+    if !request.spans.is_empty() {
+        return Ok(());
+    }
+    match cut_for(request, widths.sizes.as_slice(), width, most) {
+        Some(columns) => write!(text, "; --cut {columns} would fit"),
+        None => Ok(()),
+    }
 }
 
 /// What is said of a table that is wider than it may be by every cut, and has this width by a cut to one column.
@@ -82,14 +103,27 @@ fn name_cells(
     (witness, width): (&[Position], usize),
 ) -> Result<(), AllocError> {
     let texts = Bump::new(alloc);
-    let Some(rows) = shown_rows(alloc, &texts, request, input)? else {
-        return Ok(());
-    };
-    let read = Read {
-        request,
-        input,
-        rows: &rows,
-    };
+    match shown_rows(alloc, &texts, request, input)? {
+        Some(rows) => {
+            let read = Read {
+                request,
+                input,
+                rows: &rows,
+            };
+            name_widest_of(alloc, text, read, witness, width)
+        }
+        None => Ok(()),
+    }
+}
+
+/// The same of a text that was read.
+fn name_widest_of(
+    alloc: Global,
+    text: &mut String,
+    read: Read<'_, '_>,
+    witness: &[Position],
+    width: usize,
+) -> Result<(), AllocError> {
     let cells = widest_first(alloc, read, witness)?;
     name_widest(alloc, text, read, &cells, width)
 }
@@ -116,21 +150,26 @@ fn name_widest(
     cells: &[Asking],
     width: usize,
 ) -> Result<(), AllocError> {
-    let mut rest = width;
-    let mut is_first = true;
+    let (mut rest, mut is_first) = (width, true);
     for cell in cells.iter().take(NAMED) {
-        let (head, line) = cell_name(alloc, read, cell.position)?;
-        text.push_str(if is_first { ": " } else { ", " })?;
-        add_cell(text, head.as_str(), line, cell.width)?;
+        let begin = if is_first { ": " } else { ", " };
+        add_cell(alloc, text, read, begin, *cell)?;
         rest = rest.saturating_sub(cell.width);
         is_first = false;
     }
     write!(text, ", lines and the rest {rest}")
 }
 
-/// Adds what a cell of this name takes.
-fn add_cell(text: &mut String, name: &str, line: usize, takes: usize) -> Result<(), AllocError> {
-    write!(text, "{name} (line {line}) takes {takes}")
+/// Adds this beginning, and what a cell takes.
+fn add_cell(
+    alloc: Global,
+    text: &mut String,
+    read: Read<'_, '_>,
+    begin: &str,
+    Asking { position, width }: Asking,
+) -> Result<(), AllocError> {
+    let (name, line) = cell_name(alloc, read, position)?;
+    write!(text, "{begin}{name} (line {line}) takes {width}")
 }
 
 /// What a cell asks for: the width of its text and of its padding.

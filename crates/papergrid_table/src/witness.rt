@@ -3,6 +3,7 @@
 use crate::sizes::certified;
 use papergrid::{ReadSource, Sizing, WriteSink, run_keeping};
 use papergrid_csv::Request;
+use papergrid_layout::{PerDirection, Solved};
 use papergrid_values::Position;
 use std::alloc::{AllocError, Global};
 
@@ -12,11 +13,17 @@ pub fn witness_of_text(
     request: &Request,
     input: &[u8],
 ) -> Result<String, AllocError> {
-    let mut lines = String::new(alloc);
-    if let Some(found) = certified(alloc, request, input)? {
-        push_witness(&mut lines, "witness widths", &found.columns.certificate)?;
-        push_witness(&mut lines, "\nwitness heights", &found.rows.certificate)?;
+    match certified(alloc, request, input)? {
+        Some(found) => witness_of(alloc, &found),
+        None => Ok(String::new(alloc)),
     }
+}
+
+/// The same of sizes.
+fn witness_of(alloc: Global, found: &PerDirection<Solved>) -> Result<String, AllocError> {
+    let mut lines = String::new(alloc);
+    push_witness(&mut lines, "witness widths", &found.columns.certificate)?;
+    push_witness(&mut lines, "\nwitness heights", &found.rows.certificate)?;
     Ok(lines)
 }
 
@@ -57,6 +64,11 @@ pub fn witness_of_script(
     if run_keeping(alloc, sizing, &mut source, &mut sink, &mut kept).is_err() {
         return Err(AllocError);
     }
+    witness_lines(alloc, &written)
+}
+
+/// The lines of what was written that name the cells; no line feed after the last.
+fn witness_lines(alloc: Global, written: &[u8]) -> Result<String, AllocError> {
     let mut lines = String::new(alloc);
     for line in written.split(|byte| *byte == b'\n') {
         if line.starts_with(b"witness") {

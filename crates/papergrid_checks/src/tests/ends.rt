@@ -35,13 +35,11 @@ impl FailsFirst {
 impl Read for FailsFirst {
     fn read(&mut self, buffer: &mut [u8]) -> io::Result<usize> {
         self.fail()?;
-        match buffer.first_mut() {
-            Some(byte) => {
-                *byte = b'a';
-                Ok(1)
-            }
-            None => Ok(0),
+        if buffer.is_empty() {
+            return Ok(0);
         }
+        buffer[0] = b'a';
+        Ok(1)
     }
 }
 

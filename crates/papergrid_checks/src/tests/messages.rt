@@ -2,6 +2,7 @@
 
 use crate::errors::first_place;
 use crate::tests::rows_of;
+use anyhow::Error;
 use papergrid::RunFault;
 use papergrid::config::Position;
 use papergrid::config::spanned::{Setting, Stopped};
@@ -11,10 +12,8 @@ use std::fmt::Display;
 
 /// Whether an error has these words.
 fn says<E: Display + Drop>(alloc: Global, error: E, words: &str) -> bool {
-    match format!(in alloc; "{error}") {
-        Ok(text) => text.as_str() == words,
-        Err(_) => false,
-    }
+    let said: Result<String, AllocError> = format!(in alloc; "{error}");
+    said.is_ok_and(|text| text.as_str() == words)
 }
 
 #[test]
@@ -72,12 +71,15 @@ fn says_of_span(
     words: &str,
 ) -> Result<bool, AllocError> {
     let rows = rows_of(alloc, &[&["one", "two"]])?;
-    let mut settings = Vec::new(alloc);
-    settings.push(Setting::SetColumnSpan(position, span))?;
-    match first_place(alloc, settings, &rows) {
-        Ok(_) => Ok(false),
-        Err(error) => Ok(format!(in alloc; "{error:#}")?.as_str() == words),
-    }
+    let settings = vec![in alloc; Setting::SetColumnSpan(position, span)]?;
+    let refused = first_place(alloc, settings, &rows).err();
+    Ok(refused.is_some_and(|error| says_with_context(alloc, error, words)))
+}
+
+/// Whether an error with what it is about has these words.
+fn says_with_context(alloc: Global, error: Error, words: &str) -> bool {
+    let said: Result<String, AllocError> = format!(in alloc; "{error:#}");
+    said.is_ok_and(|text| text.as_str() == words)
 }
 
 #[test]

@@ -55,20 +55,25 @@ const FITTED: &str = "\
 │ c │ d │\n\
 ╰───┴───╯\n";
 
-/// Whether round corners and lines between all rows, which no style has together, are drawn so.
-fn is_ruled(alloc: Global) -> Result<bool, AllocError> {
-    let mut request = Request::in_style(alloc, Style::Rounded);
+/// Lines between all rows, with crossings that fit spans.
+fn rule(request: &mut Request) {
     request.head = None;
-    request.spans.push(Span {
-        position: Position::new(0, 0),
-        rows: 1,
-        columns: 2,
-    })?;
     request.frame.horizontal = Some('─');
     request.frame.left_intersection = Some('├');
     request.frame.intersection = Some('┼');
     request.frame.right_intersection = Some('┤');
     request.junctions = Junctions::of_frame(&request.frame);
+}
+
+/// Whether round corners and lines between all rows, which no style has together, are drawn so.
+fn is_ruled(alloc: Global) -> Result<bool, AllocError> {
+    let mut request = Request::in_style(alloc, Style::Rounded);
+    rule(&mut request);
+    request.spans.push(Span {
+        position: Position::new(0, 0),
+        rows: 1,
+        columns: 2,
+    })?;
     Ok(ends(alloc, &request, b"ab,\nc,d\n", CsvEnd::Drawn, FITTED))
 }
 
@@ -145,10 +150,7 @@ fn rows(rt: HostRuntime) {
 
 /// Whether a text is cut so to four columns.
 fn is_cut(alloc: Global, text: &str, shown: &str) -> bool {
-    match shortened(alloc, 4, text) {
-        Ok(cut) => cut.as_str() == shown,
-        Err(_) => false,
-    }
+    shortened(alloc, 4, text).is_ok_and(|cut| cut.as_str() == shown)
 }
 
 #[test]

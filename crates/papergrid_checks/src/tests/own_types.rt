@@ -39,10 +39,7 @@ fn has_widths_of_people(alloc: Global) -> bool {
     let config = SpannedConfig::new(alloc);
     let found = of_people(alloc, &rows, 1, &config);
     drop(config);
-    match found {
-        Ok(widths) => widths.as_slice() == [3].as_slice(),
-        Err(_) => false,
-    }
+    found.is_ok_and(|widths| widths.as_slice() == [3].as_slice())
 }
 
 #[test]

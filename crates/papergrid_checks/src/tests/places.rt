@@ -43,7 +43,7 @@ const SIZES: Even = Even {
 
 /// The same sizes of three columns and two rows.
 fn even_sizes(alloc: Global) -> Result<(Vec<usize>, Vec<usize>), AllocError> {
-    Ok((vec![in alloc; 3, 3, 3]?, vec![in alloc; 1, 1]?))
+    Ok(([3, 3, 3].to_vec(alloc)?, [1, 1].to_vec(alloc)?))
 }
 
 /// The table of these.
@@ -59,10 +59,7 @@ fn is_clicked(
     (column, line): (usize, usize),
     cell: Option<Position>,
 ) -> bool {
-    let found = match clicked(table, column, line) {
-        Some((position, _place)) => Some(position),
-        None => None,
-    };
+    let found = clicked(table, column, line).map(|(position, _place)| position);
     cell_at(&SIZES, config, (2, 3), column, line) == cell && found == cell
 }
 
@@ -93,32 +90,25 @@ fn are_placed(config: &SpannedConfig) -> bool {
 
 /// Five cells of six are visible; in a table of one column the first one overflows the table.
 fn are_all_placed(alloc: Global, config: &SpannedConfig, table: &Table<'_>) -> bool {
-    let all = match all_places(alloc, table) {
-        Ok(list) => list.len(),
-        Err(_) => 0,
-    };
-    let refused = match places(alloc, &SIZES, config, (2, 1)) {
-        Ok(_) => None,
-        Err(error) => out_of_table(error),
-    };
-    all == 5 && refused == Some(Position::new(0, 0))
+    let refused = places(alloc, &SIZES, config, (2, 1)).err();
+    all_places(alloc, table).is_ok_and(|list| list.len() == 5)
+        && refused.and_then(out_of_table) == Some(Position::new(0, 0))
 }
 
 fn are_as_told(alloc: Global) -> bool {
     let Ok(config) = one_by_one(alloc) else {
         return false;
     };
-    let are = match even_table(alloc, &config) {
-        Ok(table) => {
-            are_clicked(&config, &table)
-                && are_placed(&config)
-                && are_all_placed(alloc, &config, &table)
-                && first_separator(&table) == Some(4)
-        }
-        Err(_) => false,
-    };
+    let are = even_table(alloc, &config).is_ok_and(|table| are_told(alloc, &config, &table));
     drop(config);
     are
+}
+
+fn are_told(alloc: Global, config: &SpannedConfig, table: &Table<'_>) -> bool {
+    are_clicked(config, table)
+        && are_placed(config)
+        && are_all_placed(alloc, config, table)
+        && first_separator(table) == Some(4)
 }
 
 #[test]

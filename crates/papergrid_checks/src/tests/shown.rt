@@ -37,10 +37,7 @@ fn is_drawn_so(alloc: Global) -> bool {
         width: 31,
         height: 1,
     };
-    match second_cell(alloc, &rows) {
-        Ok(found) => found == (51, place),
-        Err(_) => false,
-    }
+    second_cell(alloc, &rows).is_ok_and(|found| found == (51, place))
 }
 
 /// The head is bold, and other rows are plain.
@@ -48,11 +45,11 @@ fn has_bold_head(alloc: Global) -> bool {
     let Ok(colors) = bold_head(alloc) else {
         return false;
     };
-    let is_bold = match colors.get_color(Position::new(0, 5)) {
-        Some(color) => color.get_prefix() == "\u{1b}[1m" && color.get_suffix() == "\u{1b}[0m",
-        None => false,
-    };
-    is_bold && colors.get_color(Position::new(1, 0)).is_none()
+    colors.get_color(Position::new(1, 0)).is_none()
+        && colors.get_color(Position::new(0, 5)).is_some_and(|color| (
+            color.get_prefix(),
+            color.get_suffix(),
+        ) == ("\u{1b}[1m", "\u{1b}[0m"))
 }
 
 fn is_painted(alloc: Global) -> bool {
@@ -67,12 +64,8 @@ fn is_painted(alloc: Global) -> bool {
 
 /// A mark in the second column, and a blank elsewhere.
 fn are_marked(alloc: Global) -> bool {
-    match marks(alloc) {
-        Ok(marks) => {
-            *marks.get(Position::new(7, 1)) == 'x' && *marks.get(Position::new(7, 0)) == ' '
-        }
-        Err(_) => false,
-    }
+    marks(alloc).is_ok_and(|marks| *marks.get(Position::new(7, 1)) == 'x'
+        && *marks.get(Position::new(7, 0)) == ' ')
 }
 
 /// Texts without padding are as wide as the widest of a column.
@@ -95,11 +88,7 @@ fn has_least_sizes(alloc: Global) -> bool {
     let second = config.set_column_span(Position::new(1, 1), 2).is_ok();
     let found = of_crossing(alloc, &rows, &config);
     drop(config);
-    let is_least = match found {
-        Ok((widths, _heights)) => widths.as_slice() == [0, 10, 0].as_slice(),
-        Err(_) => false,
-    };
-    first && second && is_least
+    first && second && found.is_ok_and(|sizes| sizes.0.as_slice() == [0, 10, 0].as_slice())
 }
 
 /// One text of two lines.
@@ -124,10 +113,7 @@ fn has_two_rows(alloc: Global) -> Result<bool, AllocError> {
     config.set_borders(Borders::filled('+'));
     let picture = two_rows(alloc, &config, rows);
     drop(config);
-    Ok(match picture {
-        Ok(picture) => picture.as_str() == "+++++\n+0-0+\n+++++\n+1-0+\n+++++",
-        Err(_) => false,
-    })
+    Ok(picture.is_ok_and(|picture| picture.as_str() == "+++++\n+0-0+\n+++++\n+1-0+\n+++++"))
 }
 
 #[test]

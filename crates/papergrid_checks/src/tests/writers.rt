@@ -153,10 +153,9 @@ fn is_measured_told(
     let grid = PeekableGrid::new(records, config, &Ones, &NoColors);
     let mut writer = writer_of(alloc, taken);
     let as_text = grid.build(alloc, &mut writer);
-    let is_text = is_told(as_text, writer, taken);
     let mut sink = writer_of(alloc, taken);
     let as_bytes = grid.write_to(alloc, &mut WriteSink::new(&mut sink));
-    is_told(as_bytes, sink, taken) && is_text
+    is_told(as_text, writer, taken) & is_told(as_bytes, sink, taken)
 }
 
 /// The same of texts that are not measured.
@@ -169,29 +168,31 @@ fn is_text_told(
     let grid = IterGrid::new(records, config, &Ones, &NoColors);
     let mut writer = writer_of(alloc, taken);
     let as_text = grid.build(alloc, &mut writer);
-    let is_text = is_told(as_text, writer, taken);
     let grid = IterGrid::new(records, config, &Ones, &NoColors);
     let mut sink = writer_of(alloc, taken);
     let as_bytes = grid.write_to(alloc, &mut WriteSink::new(&mut sink));
-    is_told(as_bytes, sink, taken) && is_text
+    is_told(as_text, writer, taken) & is_told(as_bytes, sink, taken)
 }
 
 /// Both of a table.
-fn is_broken_told(alloc: Global, broken: &Broken) -> Result<bool, AllocError> {
+fn is_broken_told(
+    alloc: Global,
+    broken: &Broken,
+    config: &SpannedConfig,
+) -> Result<bool, AllocError> {
     let rows = rows_of(alloc, &[broken.texts])?;
-    let measured = VecRecords::new(measured_rows(alloc, &[broken.texts])?);
-    let config = framed(alloc, broken.color)?;
     let records = IterRecords::new(rows.as_slice(), broken.texts.len(), None);
-    let is_text = is_text_told(alloc, records, &config, broken.taken);
-    let is_measured = is_measured_told(alloc, &measured, &config, broken.taken);
-    Ok(is_text && is_measured)
+    let is_text = is_text_told(alloc, records, config, broken.taken);
+    let measured = VecRecords::new(measured_rows(alloc, &[broken.texts])?);
+    Ok(is_text & is_measured_told(alloc, &measured, config, broken.taken))
 }
 
 /// After so many bytes, at the first call, and inside of a colour, after which no suffix is written.
 fn are_told(alloc: Global) -> Result<bool, AllocError> {
     let mut are = true;
     for broken in &BROKEN {
-        are = is_broken_told(alloc, broken)? && are;
+        let config = framed(alloc, broken.color)?;
+        are = is_broken_told(alloc, broken, &config)? && are;
     }
     Ok(are)
 }

@@ -19,10 +19,7 @@ fn needs_equal_clones<T: Clone>(value: &T) -> Result<T, AllocError>
 fn is_equal_clone<T: Clone + PartialEq + Drop>(value: T) -> bool
     requires { (x y : T) → T.is_clone x y → y ≡ x }
 {
-    match needs_equal_clones(&value) {
-        Ok(copy) => copy == value,
-        Err(_) => false,
-    }
+    needs_equal_clones(&value).is_ok_and(|copy| copy == value)
 }
 
 fn color(alloc: Global) -> Result<ANSIBuf, AllocError> {

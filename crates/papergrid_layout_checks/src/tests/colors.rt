@@ -41,10 +41,7 @@ fn written<C: ANSIFmt>(alloc: Global, color: &C) -> Result<String, fmt::Error> {
 }
 
 fn is_written<C: ANSIFmt>(alloc: Global, color: &C, expected: &str) -> bool {
-    match written(alloc, color) {
-        Ok(text) => text.as_str() == expected,
-        Err(_) => false,
-    }
+    written(alloc, color).is_ok_and(|text| text.as_str() == expected)
 }
 
 // A colour with no suffix of its own.
@@ -83,42 +80,29 @@ impl Colors for Everywhere {
 
 fn are_written(alloc: Global) -> bool {
     let lent = ANSIStr::new("<", ">");
-    match ANSIBuf::new(alloc, "<", ">") {
-        Ok(color) => {
-            is_written(alloc, &lent, "<|>")
-                && is_written(alloc, &&lent, "<|>")
-                && is_written(alloc, &color, "<|>")
-                && is_written(alloc, &&color, "<|>")
-        }
-        Err(_) => false,
-    }
+    is_written(alloc, &lent, "<|>")
+        && is_written(alloc, &&lent, "<|>")
+        && ANSIBuf::new(alloc, "<", ">").is_ok_and(|color| {
+            is_written(alloc, &color, "<|>") && is_written(alloc, &&color, "<|>")
+        })
 }
 
 fn is_copied(alloc: Global, lent: ANSIStr<'_>, color: &ANSIBuf) -> bool {
-    match ANSIBuf::copy_of(alloc, lent) {
-        Ok(copy) => copy == *color,
-        Err(_) => false,
-    }
+    ANSIBuf::copy_of(alloc, lent).is_ok_and(|copy| copy == *color)
 }
 
 fn is_owned(alloc: Global) -> bool {
     let lent = ANSIStr::new("<", ">");
-    match ANSIBuf::new(alloc, "<", ">") {
-        Ok(color) => {
-            (color.get_prefix(), color.get_suffix()) == ("<", ">")
-                && color.as_ref() == lent
-                && is_copied(alloc, lent, &color)
-                && !color.is_empty()
-        }
-        Err(_) => false,
-    }
+    ANSIBuf::new(alloc, "<", ">").is_ok_and(|color| {
+        (color.get_prefix(), color.get_suffix()) == ("<", ">")
+            && color.as_ref() == lent
+            && is_copied(alloc, lent, &color)
+            && !color.is_empty()
+    })
 }
 
 fn is_empty_copied(alloc: Global) -> bool {
-    match ANSIBuf::copy_of(alloc, ANSIStr::empty()) {
-        Ok(copy) => copy.is_empty(),
-        Err(_) => false,
-    }
+    ANSIBuf::copy_of(alloc, ANSIStr::empty()).is_ok_and(|copy| copy.is_empty())
 }
 
 #[test]

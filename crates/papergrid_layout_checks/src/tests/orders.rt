@@ -4,7 +4,7 @@ use papergrid_values::{
     ANSIBuf, ANSIStr, AlignmentHorizontal, AlignmentVertical, Border, Borders, Entity, Formatting,
     HorizontalLine, Indent, Offset, Position, Sides, VerticalLine,
 };
-use std::alloc::Global;
+use std::alloc::{AllocError, Global};
 use std::cmp::Ordering;
 use std::fmt;
 use std::hash::{DefaultHasher, Hash, Hasher};
@@ -17,15 +17,10 @@ fn hash_of<T: Hash>(value: &T) -> u64 {
 
 // Whether `low` stands before `high`, and equals its clone in every way. Its type is one that can be shown.
 fn is_before<T: Clone + Ord + Hash + fmt::Debug>(low: T, high: T) -> bool {
-    match low.clone() {
-        Ok(copy) => {
-            low < high
-                && low.cmp(&high) == Ordering::Less
-                && copy == low
-                && hash_of(&copy) == hash_of(&low)
-        }
-        Err(_) => false,
-    }
+    let copy: Result<T, AllocError> = low.clone();
+    low < high
+        && low.cmp(&high) == Ordering::Less
+        && copy.is_ok_and(|copy| copy == low && hash_of(&copy) == hash_of(&low))
 }
 
 // In each pair the first field tells, against all that follow: so in the three below.

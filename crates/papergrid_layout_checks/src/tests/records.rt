@@ -25,10 +25,7 @@ fn owned_rows(alloc: Global) -> Result<Vec<Vec<String>>, AllocError> {
 
 /// Whether these are the widths.
 fn are(widths: Widths, expected: &[usize]) -> bool {
-    match widths {
-        Ok(widths) => widths.as_slice() == expected,
-        Err(_) => false,
-    }
+    widths.is_ok_and(|widths| widths.as_slice() == expected)
 }
 
 fn are_of_rows(alloc: Global) -> Result<bool, AllocError> {

@@ -27,10 +27,7 @@ fn walked(
 }
 
 fn is_walked(alloc: Global) -> bool {
-    match walked(alloc, Entity::Global, 10, 10) {
-        Ok(walk) => walk.len() == 100,
-        Err(_) => false,
-    }
+    walked(alloc, Entity::Global, 10, 10).is_ok_and(|walk| walk.len() == 100)
 }
 
 fn are_sums() -> bool {
