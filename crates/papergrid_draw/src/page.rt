@@ -68,12 +68,11 @@ impl<'a> Frame<'a> {
         ensures { IfOk result (IsFrame table.now) }
     {
         let shape = table.shape();
-        let height = table.height();
         let mut verticals = Vec::new(alloc);
-        for j in 0..shape.1 {
+        for j in 0..=shape.1 {
             verticals.push(table.vertical_at(j).is_some())?;
         }
-        verticals.push(table.vertical_at(shape.1).is_some())?;
+        let height = table.height();
         let looks = Looks::new(config);
         Ok(Frame {
             table,
