@@ -203,12 +203,13 @@ impl<'a> Frame<'a> {
             × IsSlot (drawing_of parts texts) position.row position.col
             (text_start (drawing_of parts texts) position.row + (k + 1)) slot.new) }
     {
-        if let Some(block) = &slot.block {
-            self.push_line_before(position, height, k, line)?;
-            block.push_line(slot.drawn, line)?;
-        }
+        let drawn = slot.drawn;
         slot.drawn += 1;
-        Ok(())
+        let Some(block) = &slot.block else {
+            return Ok(());
+        };
+        self.push_line_before(position, height, k, line)?;
+        block.push_line(drawn, line)
     }
 
     /// Adds the character of the vertical line before a column, if there is one.
