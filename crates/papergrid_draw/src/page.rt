@@ -308,12 +308,13 @@ impl<'a> Frame<'a> {
         ensures kept { OnOk result (slot.new ≡
             record slot.old { drawn = slot.old.drawn + 1 }) }
     {
-        if let Some(block) = &slot.block {
-            rule.end(line)?;
-            block.push_line(slot.drawn, line)?;
-        }
+        let drawn = slot.drawn;
         slot.drawn += 1;
-        Ok(())
+        let Some(block) = &slot.block else {
+            return Ok(());
+        };
+        rule.end(line)?;
+        block.push_line(drawn, line)
     }
 
     /// Adds what stands in a column of the line before a row: the line of a cell that stands over it, or the line.
