@@ -99,11 +99,12 @@ impl<'a> Frame<'a> {
         if self.reaches_row(above, position.row) {
             return above;
         }
-        if position.col > 0 {
-            let left = slots[position.col - 1].owner;
-            if self.reaches_column(left, position) {
-                return left;
-            }
+        if position.col == 0 {
+            return position;
+        }
+        let left = slots[position.col - 1].owner;
+        if self.reaches_column(left, position) {
+            return left;
         }
         position
     }
