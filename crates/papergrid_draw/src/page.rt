@@ -151,10 +151,11 @@ impl<'a> Frame<'a> {
         if owner.row < position.row {
             return;
         }
-        let mut block = None;
-        if owner.col == position.col {
-            block = self.block(position, cell, color);
-        }
+        let block = if owner.col == position.col {
+            self.block(position, cell, color)
+        } else {
+            None
+        };
         slots[position.col] = Slot {
             owner,
             block,
