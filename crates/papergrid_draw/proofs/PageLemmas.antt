@@ -1,5 +1,5 @@
 -- What is known of the columns of a row while a table is drawn.
-use Rattle.std.proofs.Common.{◌≡◌, ◌∙◌, ap, sym, subst, refl, inl, inr, ℕ, ◌+◌, ◌-◌, ◌<◌, ◌≤◌, Bool, true, false, ◌&&◌, cond, List, [], ◌∷◌, ◌++◌, Some, None, get_or, length, arith}
+use Rattle.std.proofs.Common.{◌≡◌, ◌∙◌, ap, sym, subst, refl, inl, inr, ℕ, ◌+◌, ◌-◌, ◌<◌, ◌≤◌, Bool, true, false, ◌&&◌, cond, List, [], ◌∷◌, ◌++◌, Option, Some, None, get_or, length, arith}
 use Rattle.std.proofs.Math.Bool.{and-false}
 use Rattle.std.specs.Prelude.{◌==◌, if◌then◌else◌, is_some, nat_lt}
 use Rattle.std.specs.List.{find}
@@ -13,16 +13,16 @@ use Rattle.papergrid_values.specs.declared.direction.Direction.TheVariants.{Colu
 use Rattle.papergrid_values.specs.MapKeys.{position_eq}
 use Rattle.papergrid_values.specs.declared.position.Position.{Position}
 use Rattle.papergrid_layout.specs.Places.{TableView, begin_along, line_offset, place_at, track_line, track_size}
-use Rattle.papergrid_layout.specs.Tables.{line_position}
+use Rattle.papergrid_layout.specs.Tables.{TableParts, line_position, view_of}
 use Rattle.papergrid_layout.specs.declared.rect.Place.{Place}
 use Rattle.papergrid_layout.proofs.PlaceSums.{line-before, offset-next, offset-rises}
 use Rattle.papergrid_draw.specs.Contents as contents
 use Rattle.papergrid_draw.specs.Contents.{block_at, content, look_of}
 use Rattle.papergrid_draw.specs.Drawings.{Drawing, layout_of}
-use Rattle.papergrid_draw.specs.Drawn.{after_these, column_pieces, draws_horizontal, owner_at, stands_over, stands_over_crossing, vertical_pieces}
+use Rattle.papergrid_draw.specs.Drawn.{after_these, column_pieces, draws_horizontal, draws_vertical, owner_at, stands_over, stands_over_crossing, vertical_pieces}
 use Rattle.papergrid_draw.specs.Tiles.{IsTiled, owner, owns}
 use Rattle.papergrid_draw.proofs.TileLemmas.{test-over, test-over-crossing}
-use Rattle.papergrid_draw.specs.ForProofs.Pages.{row_start, slot_at, text_start}
+use Rattle.papergrid_draw.specs.ForProofs.Pages.{Texts, drawing_of, row_start, slot_at, text_start}
 
 -- ---- owners
 
@@ -151,7 +151,7 @@ block-made d p made place is look lines color width height = λ i. record {
 -- ---- where lines are
 
 -- a line has a place where it is drawn
-pub line-known : (table : TableView) (j : ℕ) → j ≤ table.shape.1 → is_some (line_position table Columns j) ≡ track_line table Columns j
+line-known : (table : TableView) (j : ℕ) → j ≤ table.shape.1 → is_some (line_position table Columns j) ≡ track_line table Columns j
 line-known table j within = rw (le-leb j table.shape.1 within) (known (track_line table Columns j))
   where
     known : (b : Bool) → is_some (if b then Some (line_offset (track_size table Columns) (track_line table Columns) j) else None) ≡ b
@@ -159,7 +159,7 @@ line-known table j within = rw (le-leb j table.shape.1 within) (known (track_lin
     known false = refl
 
 -- one more is known
-pub lines-more : (items : List Bool) (j : ℕ) (b : Bool) (f : ℕ → Bool) → length items ≡ j → ((i : ℕ) (other : Bool) → i < j → get_or items i other ≡ f i) →
+lines-more : (items : List Bool) (j : ℕ) (b : Bool) (f : ℕ → Bool) → length items ≡ j → ((i : ℕ) (other : Bool) → i < j → get_or items i other ≡ f i) →
     b ≡ f j → (length (items ++ b ∷ []) ≡ j + 1) × ((i : ℕ) (other : Bool) → i < j + 1 → get_or (items ++ b ∷ []) i other ≡ f i)
 lines-more items j b f many known last = (
   length-append items (b ∷ []) ∙ ap (λ n. n + 1) many,
@@ -170,3 +170,14 @@ lines-more items j b f many known last = (
         ap (λ n. get_or (items ++ b ∷ []) n other) here ∙ get_or-append_seam items b [] other ∙ last ∙ ap f (sym (here ∙ many))
   ],
 )
+
+-- and of a table one more line
+pub verticals-more : (table : TableParts) (items next : List Bool) (j : ℕ) {found : Option ℕ} {b : Bool} → next ≡ items ++ b ∷ [] → b ≡ is_some found →
+    found ≡ line_position (view_of table) Columns j → j ≤ length table.widths → length items ≡ j →
+    ((texts : Texts) (i : ℕ) (other : Bool) → i < j → get_or items i other ≡ draws_vertical (drawing_of table texts) i) →
+    (length next ≡ j + 1) × ((texts : Texts) (i : ℕ) (other : Bool) → i < j + 1 → get_or next i other ≡ draws_vertical (drawing_of table texts) i)
+verticals-more table items next j {found} {b} pushed is placed within many known =
+    let drawn : b ≡ track_line (view_of table) Columns j = is ∙ ap is_some placed ∙ line-known (view_of table) j within in
+    let more : (texts : Texts) → (length next ≡ j + 1) × ((i : ℕ) (other : Bool) → i < j + 1 → get_or next i other ≡ draws_vertical (drawing_of table texts) i) =
+    λ texts. rw pushed (lines-more items j b (draws_vertical (drawing_of table texts)) many (known texts) drawn) in
+    ((more (record { lines = λ _. []; color = λ _. None })).0, λ texts. (more texts).1)

@@ -68,12 +68,11 @@ impl<'a> Frame<'a> {
         ensures { IfOk result (IsFrame table.now) }
     {
         let shape = table.shape();
-        let height = table.height();
         let mut verticals = Vec::new(alloc);
-        for j in 0..shape.1 {
+        for j in 0..=shape.1 {
             verticals.push(table.vertical_at(j).is_some())?;
         }
-        verticals.push(table.vertical_at(shape.1).is_some())?;
+        let height = table.height();
         let looks = Looks::new(config);
         Ok(Frame {
             table,
@@ -100,11 +99,12 @@ impl<'a> Frame<'a> {
         if self.reaches_row(above, position.row) {
             return above;
         }
-        if position.col > 0 {
-            let left = slots[position.col - 1].owner;
-            if self.reaches_column(left, position) {
-                return left;
-            }
+        if position.col == 0 {
+            return position;
+        }
+        let left = slots[position.col - 1].owner;
+        if self.reaches_column(left, position) {
+            return left;
         }
         position
     }
@@ -151,10 +151,11 @@ impl<'a> Frame<'a> {
         if owner.row < position.row {
             return;
         }
-        let mut block = None;
-        if owner.col == position.col {
-            block = self.block(position, cell, color);
-        }
+        let block = if owner.col == position.col {
+            self.block(position, cell, color)
+        } else {
+            None
+        };
         slots[position.col] = Slot {
             owner,
             block,
@@ -204,12 +205,13 @@ impl<'a> Frame<'a> {
             × IsSlot (drawing_of parts texts) position.row position.col
             (text_start (drawing_of parts texts) position.row + (k + 1)) slot.new) }
     {
-        if let Some(block) = &slot.block {
-            self.push_line_before(position, height, k, line)?;
-            block.push_line(slot.drawn, line)?;
-        }
+        let drawn = slot.drawn;
         slot.drawn += 1;
-        Ok(())
+        let Some(block) = &slot.block else {
+            return Ok(());
+        };
+        self.push_line_before(position, height, k, line)?;
+        block.push_line(drawn, line)
     }
 
     /// Adds the character of the vertical line before a column, if there is one.
@@ -308,12 +310,13 @@ impl<'a> Frame<'a> {
         ensures kept { OnOk result (slot.new ≡
             record slot.old { drawn = slot.old.drawn + 1 }) }
     {
-        if let Some(block) = &slot.block {
-            rule.end(line)?;
-            block.push_line(slot.drawn, line)?;
-        }
+        let drawn = slot.drawn;
         slot.drawn += 1;
-        Ok(())
+        let Some(block) = &slot.block else {
+            return Ok(());
+        };
+        rule.end(line)?;
+        block.push_line(drawn, line)
     }
 
     /// Adds what stands in a column of the line before a row: the line of a cell that stands over it, or the line.

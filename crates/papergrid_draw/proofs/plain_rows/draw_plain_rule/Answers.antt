@@ -34,6 +34,14 @@ returns-in_err-begin_beside-clause-lines g c =
     let p = err_from_is_err_and c.from_residual.result c.from_residual.ensures.1 in
     rw (p.1, p.2) (λ texts. lines-refused g.D.Delivery.takes g.D.Delivery.breaks _ _ _ _ _)
 
+pub push_plain_rule_line-requires : goal.push_plain_rule_line-requires
+push_plain_rule_line-requires g c = record {
+  frame = c.requires.frame;
+  plain = c.requires.plain;
+  own = c.requires.own;
+  row_in = c.requires.row_in;
+}
+
 pub returns-in_err-push_plain_rule_line-clause-lines : goal.returns-in_err-push_plain_rule_line-clause-lines
 returns-in_err-push_plain_rule_line-clause-lines g c =
     let p = err_from_is_err_and c.from_residual-in_err-push_plain_rule_line.result c.from_residual-in_err-push_plain_rule_line.ensures.1 in
@@ -66,6 +74,9 @@ returns-clause-lines g c = λ texts.
     (c.in_ok-push_plain_rule_line.ensures.bytes texts)
     (c.end_beside.ensures.bytes parts texts c.requires.frame)
     c.end_beside.ensures.begun))
+
+pub returns-clause-own : goal.returns-clause-own
+returns-clause-own g c = on_ok_weaker c.end_beside.result (λ written. c.in_ok-push_plain_rule_line.ensures.own) c.end_beside.ensures.written
 
 pub returns-clause-written : goal.returns-clause-written
 returns-clause-written g c = on_ok_weaker c.end_beside.result (λ more texts below.

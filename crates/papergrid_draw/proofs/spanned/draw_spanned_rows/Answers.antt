@@ -19,6 +19,14 @@ loop-row-init g c = record {
   lines = lines-none g.D.Delivery.takes g.D.Delivery.breaks _ _ tt;
 }
 
+pub draw_row-requires : goal.draw_row-requires
+draw_row-requires g c = record {
+  tiled = c.requires.tiled;
+  row_in = subst (λ n. c.loop-row.row < n) (ap (λ s. s.0) c.requires.frame.shape) c.loop-row-test.true;
+  comes = subst (AtRow c.args.frame.now.table.now (told_texts g.S.Cells.lines g.S.Cells.color c.args.cells.now) c.args.frame.now c.loop-row.row c.loop-row.sheet)
+      (sym c.as_mut_slice.ensures.value) c.loop-row.invariant.comes;
+}
+
 pub returns-in_err-draw_row : goal.returns-in_err-draw_row
 returns-in_err-draw_row g c =
     let d = drawn_of g.S.Cells.lines g.S.Cells.color c.args.frame.now.table.now c.args.cells.now in

@@ -5,6 +5,7 @@ use Rattle.std.proofs.lemmas.List.{length-set}
 use Rattle.std.proofs.lemmas.Result.{on_ok_weaker}
 use Rattle.papergrid_draw.specs.Characters.{crossing}
 use Rattle.papergrid_draw.specs.Drawn.{OnLine, crossing_stretch}
+use borrow.Author.Rules.{scaled_Fits}
 use Rattle.papergrid_draw.specs.ForProofs.Pages.{drawing_of, row_start, text_start}
 use Rattle.papergrid_draw.specs.ForProofs.Pens.{AddsStretches}
 use Rattle.papergrid_draw.specs.declared.characters.Rule.{Rule}
@@ -29,7 +30,7 @@ pub offset_bounds-slots-col : goal.offset_bounds-slots-col
 offset_bounds-slots-col g c =
     let within : c.loop-col.col < length c.args.slots.now =
     column-there c.requires.0 c.args.self.now c.requires.2 c.args.slots.now c.loop-col.col c.requires.3 c.loop-col-test.true in
-    search rules
+    scaled_Fits _ _ _ within (search rules)
 
 pub bounds-slots-col : goal.bounds-slots-col
 bounds-slots-col g c =

@@ -2,6 +2,7 @@ use Rattle.std.proofs.Common.{rules, ◌<◌, ◌+◌, length, string_bytes, sym
 use Rattle.std.proofs.lemmas.List.{append-nil}
 use Rattle.std.proofs.lemmas.Result.{on_ok_weaker}
 use Rattle.papergrid_draw.specs.Drawn.{column_pieces}
+use borrow.Author.Rules.{scaled_Fits}
 use Rattle.papergrid_draw.specs.ForProofs.Pages.{drawing_of, text_start}
 use Rattle.papergrid_draw.proofs.LineLemmas.{column-more, frame-columns, frame-height, line-done, slot-there, slot-waits}
 use Rattle.papergrid_draw.proofs.RuleLemmas.{column-in, columns-all, columns-past, last-in}
@@ -18,7 +19,7 @@ loop-col-init g c = λ parts texts read are.
 pub offset_bounds-slots-col : goal.offset_bounds-slots-col
 offset_bounds-slots-col g c =
     let within : c.loop-col.col < length c.args.slots.now = slot-there c.requires.2 c.requires.1 c.args.row c.loop-col.col _ c.args.slots.now c.requires.5 c.loop-col-test.true in
-    search rules
+    scaled_Fits _ _ _ within (search rules)
 
 pub bounds-slots-col : goal.bounds-slots-col
 bounds-slots-col g c =
