@@ -43,6 +43,11 @@ pub found-shown : {A : Type 0} (shows : Bool) (x found : A) → Some found ≡ (
 found-shown true x found e = (refl, cc)
 found-shown false x found e = absurd (none-some found (sym e))
 
+-- where nothing is found, it is hidden
+pub unfound : {A : Type 0} (shows : Bool) (x : A) → None ≡ (if shows then Some x else None) → shows ≡ true → ⊥
+unfound true x e same = none-some x e
+unfound false x e same = cc
+
 -- the place by what is found along both directions
 pub place-found : (table : TableView) (anchor : Anchor) (left top width height : ℕ) → anchor ≡ anchor_in table.grid anchor.position →
     ◌≡◌ {A = ℕ × ℕ} (left, width)
@@ -153,6 +158,19 @@ module _ (table : TableView) where
     complete = λ p cell before. elim (before-next p r c before) [
       | inl earlier ↦ let found = are.complete p cell earlier in (found.0, Contains-append_left list ((position_of (r, c), place) ∷ []) (p, found.0) found.1)
       | inr same ↦ (place, subst (λ q. Contains (list ++ (position_of (r, c), place) ∷ []) (q, place)) (sym same) (Contains-push list (position_of (r, c), place)))
+    ];
+  }
+
+  -- past a hidden one
+  pub placed-hidden : (r c : ℕ) (list : List (Position × Place)) → (table.grid.shows (position_of (r, c)) ≡ true → ⊥) → ArePlacedBefore table r c list →
+      ArePlacedBefore table r (c + 1) list
+  placed-hidden r c list hidden are = record {
+    in_order = are.in_order;
+    placed = are.placed;
+    before = All-weaker (Before r c) (Before r (c + 1)) (λ x h. before-step x.0 r c h) list are.before;
+    complete = λ p cell before. elim (before-next p r c before) [
+      | inl earlier ↦ are.complete p cell earlier
+      | inr same ↦ absurd (hidden (subst (λ q. table.grid.shows q ≡ true) same cell.visible))
     ];
   }
 

@@ -1,6 +1,6 @@
 -- Which cells stand over a point.
 use Rattle.std.proofs.Common.{◌≡◌, ◌≢◌, ◌∙◌, ◌↔◌, ℕ, ◌+◌, ◌<◌, ◌≤◌, ◌⊎◌, Bool, true, false, inl, inr, IsTrue, refl, sym, ap, subst, arith}
-use Rattle.std.specs.Prelude.{Err}
+use Rattle.std.specs.Prelude.{Err, MatchOption, Option, None, Some}
 use Rattle.std.proofs.lemmas.Bool.{cases_lt, false≢true}
 use Rattle.std.specs.Bool.{then_some}
 use Rattle.papergrid_config.specs.declared.spanned.SpannedConfig.{SpannedConfig}
@@ -19,6 +19,11 @@ use Rattle.papergrid_layout.proofs.PlaceSums.{extent-before, offset-rises}
 not-before : (p q : Position) → IsBefore q p → q ≢ p
 not-before p q (inl l) e = let same : q.row ≡ p.row = ap (λ (z : Position). z.row) e in omega (arith, l, same)
 not-before p q (inr l) e = let same : q.col ≡ p.col = ap (λ (z : Position). z.col) e in omega (arith, l.1, same)
+
+-- what is found where the total fits
+pub where-fits : (found : Option ℕ) (Fits Out : Type 0) (Lies : ℕ → Type 0) → Fits → MatchOption found Out Lies → MatchOption found (Fits → Out) (λ i. Fits × Lies i)
+where-fits None Fits Out Lies fits out = λ _. out
+where-fits (Some i) Fits Out Lies fits lies = (fits, lies)
 
 -- a visible position lies in no other rectangle
 pub none-but-visible : (config : SpannedConfig) (p q : Position) → (spanned_grid config).shows p ≡ true →

@@ -18,7 +18,7 @@ use Rattle.papergrid_maps.specs.Hidden.{AreAnchorsOf}
 use Rattle.papergrid_maps.specs.Spans.{IsInRectangle}
 use Rattle.papergrid_maps.specs.declared.anchors.Anchor.{Anchor}
 use Rattle.papergrid_maps.proofs.HiddenLemmas.{position-same}
-use Rattle.papergrid_walk.specs.ForProofs.Shown.{Shows}
+use Rattle.papergrid_walk.specs.ForProofs.Shown.{Shows, anchor_in}
 use Rattle.papergrid_walk.specs.ForProofs.Swept.{Walk}
 use Rattle.papergrid_layout.specs.Places.{Covers, HasPlace, IsFirstOver, IsInsideTable, StandsOver, TableView, place_at, total_along}
 use Rattle.papergrid_layout.specs.declared.rect.Place.{Place}
@@ -48,6 +48,25 @@ shows-after grid walk p q (inl above) shows = shows-later grid walk p.row (p.col
 shows-after grid walk p q (inr left) shows =
     let col : p.col < q.col = left.1 in
     shows-later grid walk p.row (p.col + 1) q.row q.col (inr (left.0, omega arith)) shows
+
+-- ---- a step
+
+-- a visible position with a screen rectangle is added
+pub spanned-found : (table : TableView) (p : Position) (anchor : Anchor) (place : Place) (old new : Spanning) →
+    table.grid.shows p ≡ true → anchor ≡ anchor_in table.grid p →
+    (((anchor.position.col + anchor.cols ≤ table.shape.1) × (anchor.position.row + anchor.rows ≤ table.shape.0))
+    × (place ≡ place_at table anchor.position)) →
+    old.reach ≤ new.reach → p.row + anchor.rows ≤ new.reach →
+    new.cells.items ≡ old.cells.items ++ record { position = p; place = place; reach = new.reach } ∷ [] → IsSpannedStep table p old new
+spanned-found table p anchor place old new visible e found kept reach items =
+    let told = subst (λ (a : Anchor). ((a.position.col + a.cols ≤ table.shape.1) × (a.position.row + a.rows ≤ table.shape.0))
+    × (place ≡ place_at table a.position)) e found in
+    inr (
+      record { visible = visible; across = told.0.0; down = told.0.1 },
+      kept,
+      subst (λ (a : Anchor). p.row + a.rows ≤ new.reach) e reach,
+      items ∙ ap (λ (q : Place). old.cells.items ++ record { position = p; place = q; reach = new.reach } ∷ []) told.1,
+    )
 
 module _ (table : TableView) where
   abbrev IsPlaced : SpanningCell → Type 0

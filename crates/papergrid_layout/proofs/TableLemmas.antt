@@ -1,5 +1,5 @@
 -- What is known of a table by what it keeps.
-use Rattle.std.proofs.Common.{◌≡◌, ◌≢◌, ◌∙◌, ◌↔◌, ℕ, ◌+◌, ◌-◌, ◌<◌, ◌≤◌, ◌⊎◌, ◌&&◌, Bool, true, false, cond, inl, inr, List, get_or, leb, refl, sym, ap, subst, arith}
+use Rattle.std.proofs.Common.{◌≡◌, ◌∙◌, ℕ, ◌+◌, ◌-◌, ◌<◌, ◌≤◌, ◌⊎◌, ◌&&◌, Bool, true, cond, inl, inr, get_or, leb, refl, sym, ap, arith}
 use Rattle.std.specs.Prelude.{◌^◌, Option, None, Some, Result, Ok, Err, if◌then◌else◌, IfErr, IfOk}
 use Rattle.std.specs.Option.{SomeIff, ok_or}
 use Rattle.std.proofs.lemmas.Bool.{and_parts, cases_lt, leb-true}
@@ -12,13 +12,14 @@ use Rattle.papergrid_tracks.specs.declared.error.LayoutError.{LayoutError}
 use Rattle.papergrid_tracks.specs.declared.error.LayoutError.TheVariants as layout_error
 use Rattle.papergrid_walk.specs.ForProofs.Shown.{anchor_in}
 use Rattle.papergrid_layout.specs.Places.{ArePlacesRefused, EndsWithin, IsFirstOver, TableView, line_offset, offset, place_at, total, total_along}
-use Rattle.papergrid_layout.specs.Tables.{AreNotPlacedIn, IsPlacedIn}
+use Rattle.papergrid_layout.specs.Answers.{UnlessMemoryError}
+use Rattle.papergrid_layout.specs.Tables.{AreNotPlacedIn, IsPlacedIn, IsTotalTooLarge}
 use Rattle.papergrid_layout.specs.ForProofs.Placing.{AreMarks}
 use Rattle.papergrid_layout.specs.declared.marks.Marks.{Marks}
 use Rattle.papergrid_layout.specs.declared.rect.Place.{Place}
 use Rattle.papergrid_layout.specs.declared.rect.PlaceError.{PlaceError}
 use Rattle.papergrid_layout.specs.declared.rect.PlaceError.TheVariants.{OutOfTable}
-use Rattle.papergrid_layout.proofs.PlaceSums.{line-before, too-large}
+use Rattle.papergrid_layout.proofs.PlaceSums.{line-before}
 use Rattle.papergrid_layout.proofs.PlacingLemmas.{ends-within, has-found, is-out}
 use Rattle.papergrid_layout.proofs.PointLemmas.{none-beside, none-beyond}
 
@@ -48,16 +49,13 @@ line-at size line count marks index begin whole are at all is =
 
 -- ---- totals
 
--- a total that is found is the whole
-pub found-total : (found : Option ℕ) (whole f : ℕ) → SomeIff found (whole < 2 ^ 64) whole → ok_or found layout_error.TooLarge ≡ Ok f → (whole < 2 ^ 64) × (f ≡ whole)
-found-total None whole f h e = absurd cc
-found-total (Some n) whole f h e = let same : f ≡ n = cc in (h.0, same ∙ h.1)
-
--- where none is found, the whole is too large
-pub refused-total : (found : Option ℕ) (whole : ℕ) (error : LayoutError) → SomeIff found (whole < 2 ^ 64) whole → ok_or found layout_error.TooLarge ≡ Err error →
-    (error ≡ layout_error.TooLarge) × (2 ^ 64 ≤ whole)
-refused-total None whole error h e = let same : error ≡ layout_error.TooLarge = cc in (same, too-large None whole whole refl h)
-refused-total (Some n) whole error h e = absurd cc
+-- too large along a direction is too large
+pub large-along : (table : TableView) (direction : Direction) (e : LayoutError) →
+    UnlessMemoryError e ((e ≡ layout_error.TooLarge) × (2 ^ 64 ≤ total_along table direction)) → UnlessMemoryError e ((e ≡ layout_error.TooLarge) × IsTotalTooLarge table)
+large-along table direction (layout_error.OutOfTable p) large = absurd (let e = large.0 in cc)
+large-along table Columns layout_error.TooLarge large = (refl, inl large.1)
+large-along table Rows layout_error.TooLarge large = (refl, inr large.1)
+large-along table direction (layout_error.Memory e) any = tt
 
 -- both fit
 pub both-fit : (table : TableView) → total_along table Columns < 2 ^ 64 → total_along table Rows < 2 ^ 64 → (direction : Direction) → total_along table direction < 2 ^ 64

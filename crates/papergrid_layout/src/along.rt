@@ -1,14 +1,14 @@
 //! What is found along one direction.
 
 ghost use Rattle.std.specs.Prelude.{◌≡◌};
-ghost use Rattle.papergrid_tracks.specs.Answers.{AnswersWhere};
+ghost use Rattle.papergrid_tracks.specs.Answers.{AnswersWhere, IsSized};
 ghost use Rattle.papergrid_walk.specs.Cells.{count_along, problem_of};
 ghost use Rattle.papergrid_layout.specs.Answers.{UnlessMemory};
 ghost use Rattle.papergrid_text.specs.Records.{TellsRows};
 
 use papergrid_maps::ConfigView;
 use papergrid_text::{IntoRecords, Records};
-use papergrid_tracks::{Axis, LayoutError, Solved, Solver};
+use papergrid_tracks::{Axis, ByShares, LayoutError, Solved, Solver};
 use papergrid_values::{Direction, Position};
 use papergrid_walk::{Measure, gather};
 use std::alloc::Global;
@@ -76,4 +76,27 @@ where
         count,
     };
     T::solve(alloc, count, &kept, &axis, certify)
+}
+
+/// The sizes of the records along a direction, by shares.
+///
+/// # Errors
+///
+/// As those of `solve_along`.
+pub fn sizes_along<M, R: Records + Drop, S: ConfigView>(
+    alloc: Global,
+    records: R,
+    settings: &S,
+    direction: Direction,
+) -> Result<Vec<usize>, LayoutError>
+where
+    M: Measure<<<R as Records>::Iter as IntoRecords>::Cell>,
+    <<R as Records>::Iter as IntoRecords>::Cell: Drop,
+    requires { R.is_lawful records }
+    ensures { UnlessMemory result (TellsRows R.tells records (λ cells.
+        IsSized (problem_of (S.grid settings.now) M.measured
+        (R.columns records) cells direction) result)) }
+{
+    let found = solve_along::<ByShares, M, R, S>(alloc, records, settings, direction, false)?;
+    Ok(found.sizes)
 }

@@ -47,9 +47,7 @@ where
         (problem_of (spanned_grid config.now) (line_measure R.Iter.Cell.text)
         (R.columns records) cells Columns) result)) }
 {
-    solve_along::<ByShares, ByLines, _, _>(alloc, records, config, Direction::Columns, true).map(
-        |found| found.certificate,
-    )
+    witness_along(alloc, records, config, Direction::Columns)
 }
 
 /// The positions of the cells that certify that the heights of the records' rows are least, as
@@ -74,9 +72,26 @@ where
         (problem_of (spanned_grid config.now) (line_measure R.Iter.Cell.text)
         (R.columns records) cells Rows) result)) }
 {
-    solve_along::<ByShares, ByLines, _, _>(alloc, records, config, Direction::Rows, true).map(
-        |found| found.certificate,
-    )
+    witness_along(alloc, records, config, Direction::Rows)
+}
+
+/// The cells that certify the sizes of the records along a direction, if any do.
+fn witness_along<R: Records + Drop>(
+    alloc: Global,
+    records: R,
+    config: &SpannedConfig,
+    direction: Direction,
+) -> Result<Option<Vec<Position>>, LayoutError>
+where
+    <<R as Records>::Iter as IntoRecords>::Cell: AsStr + Drop,
+    requires { R.is_lawful records }
+    ensures { UnlessMemory result (TellsRows R.tells records (λ cells.
+        Answers IsCertificateOrNone
+        (problem_of (spanned_grid config.now) (line_measure R.Iter.Cell.text)
+        (R.columns records) cells direction) result)) }
+{
+    let found = solve_along::<ByShares, ByLines, _, _>(alloc, records, config, direction, true)?;
+    Ok(found.certificate)
 }
 
 /// Whether no visible cell of the records overflows the table along columns, there are as many

@@ -10,7 +10,7 @@ ghost use Rattle.papergrid_walk.specs.Cells.{problem_of};
 ghost use Rattle.papergrid_layout.specs.Answers.{AreBothSized, UnlessMemory};
 ghost use Rattle.papergrid_text.specs.Records.{TellsRows};
 
-use crate::along::solve_along;
+use crate::along::sizes_along;
 use crate::both::solve_both;
 use crate::dimension::{Dimension, Estimate};
 use papergrid_config::CompactConfig;
@@ -61,13 +61,7 @@ impl CompactGridDimension {
             IsSized (problem_of (compact_grid config.now) (std_line_measure R.Iter.Cell.text)
             (R.columns records) cells Columns) result)) }
     {
-        solve_along::<ByShares, ByStdLines, _, _>(
-            alloc,
-            records,
-            config,
-            Direction::Columns,
-            false,
-        ).map(|found| found.sizes)
+        sizes_along::<ByStdLines, _, _>(alloc, records, config, Direction::Columns)
     }
 
     /// The heights of the rows of the records, in lines.
@@ -91,13 +85,7 @@ impl CompactGridDimension {
             IsSized (problem_of (compact_grid config.now) (std_line_measure R.Iter.Cell.text)
             (R.columns records) cells Rows) result)) }
     {
-        solve_along::<ByShares, ByStdLines, _, _>(
-            alloc,
-            records,
-            config,
-            Direction::Rows,
-            false,
-        ).map(|found| found.sizes)
+        sizes_along::<ByStdLines, _, _>(alloc, records, config, Direction::Rows)
     }
 
     /// The widths of the columns of the records, in columns of a terminal, and the heights of their

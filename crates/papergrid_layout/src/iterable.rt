@@ -9,7 +9,7 @@ ghost use Rattle.papergrid_walk.specs.Cells.{problem_of};
 ghost use Rattle.papergrid_layout.specs.Answers.{UnlessMemory};
 ghost use Rattle.papergrid_text.specs.Records.{TellsRows};
 
-use crate::along::solve_along;
+use crate::along::{sizes_along, solve_along};
 use crate::both::solve_both;
 pub use crate::certificates::{
     check_height_witness, check_width_witness, height_witness, width_witness,
@@ -67,14 +67,7 @@ impl IterGridDimension {
             IsSized (problem_of (spanned_grid config.now) (line_measure R.Iter.Cell.text)
             (R.columns records) cells Columns) result)) }
     {
-        let found = solve_along::<ByShares, ByLines, _, _>(
-            alloc,
-            records,
-            config,
-            Direction::Columns,
-            false,
-        )?;
-        Ok(found.sizes)
+        sizes_along::<ByLines, _, _>(alloc, records, config, Direction::Columns)
     }
 
     /// The heights of the rows of the records, in lines.
@@ -97,14 +90,7 @@ impl IterGridDimension {
             IsSized (problem_of (spanned_grid config.now) (line_measure R.Iter.Cell.text)
             (R.columns records) cells Rows) result)) }
     {
-        let found = solve_along::<ByShares, ByLines, _, _>(
-            alloc,
-            records,
-            config,
-            Direction::Rows,
-            false,
-        )?;
-        Ok(found.sizes)
+        sizes_along::<ByLines, _, _>(alloc, records, config, Direction::Rows)
     }
 
     /// The width of the records' table: the sum of the widths and of the vertical lines.

@@ -9,7 +9,7 @@ ghost use Rattle.papergrid_walk.specs.Cells.{problem_of};
 ghost use Rattle.papergrid_layout.specs.Answers.{AreBothSized, UnlessMemory};
 ghost use Rattle.papergrid_text.specs.Records.{TellsRows};
 
-use crate::along::solve_along;
+use crate::along::sizes_along;
 use crate::both::solve_both;
 use crate::dimension::{Dimension, Estimate};
 use papergrid_config::SpannedConfig;
@@ -63,14 +63,7 @@ impl PeekableGridDimension {
             (cell_measure R.Iter.Cell.width R.Iter.Cell.lines)
             (R.columns records) cells Columns) result)) }
     {
-        let found = solve_along::<ByShares, ByCell, _, _>(
-            alloc,
-            records,
-            config,
-            Direction::Columns,
-            false,
-        )?;
-        Ok(found.sizes)
+        sizes_along::<ByCell, _, _>(alloc, records, config, Direction::Columns)
     }
 
     /// The heights of the rows of the records, in lines.
@@ -94,14 +87,7 @@ impl PeekableGridDimension {
             (cell_measure R.Iter.Cell.width R.Iter.Cell.lines)
             (R.columns records) cells Rows) result)) }
     {
-        let found = solve_along::<ByShares, ByCell, _, _>(
-            alloc,
-            records,
-            config,
-            Direction::Rows,
-            false,
-        )?;
-        Ok(found.sizes)
+        sizes_along::<ByCell, _, _>(alloc, records, config, Direction::Rows)
     }
 
     /// The widths of the columns of the records, in columns of a terminal, and the heights of their

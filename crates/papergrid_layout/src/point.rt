@@ -1,9 +1,11 @@
 //! The cell at a point of a table as it is printed.
 
-ghost use Rattle.std.specs.Prelude.{◌≡◌, ◌<◌, ◌≤◌, ◌↔◌, IsTrue, MatchOption};
+ghost use Rattle.std.specs.Prelude.{◌≡◌, ◌+◌, ◌<◌, ◌≤◌, ◌↔◌, ◌⊎◌, ◌^◌, IsTrue, MatchOption};
 ghost use Rattle.papergrid_values.specs.declared.position.Position.{Position};
-ghost use Rattle.papergrid_layout.specs.Places.{IsFirstOver, StandsOver, table_by};
+ghost use Rattle.papergrid_layout.specs.Places.{IsFirstOver, StandsOver, offset, size_along, table_by, total};
+ghost use Rattle.papergrid_config.specs.Grids.{spanned_grid};
 ghost use Rattle.papergrid_layout.specs.ForProofs.Points.{LiesInEach};
+ghost use Rattle.papergrid_layout.specs.ForProofs.Rulers.{has_along};
 ghost use Rattle.papergrid_layout.specs.Tables.{HasSizes};
 
 use crate::cell_rect::place;
@@ -100,6 +102,30 @@ impl<'a, D: Dimension> Point<'a, D> {
     }
 }
 
+/// The track along a direction, of so many, from whose begin to that of the next one a point lies,
+/// if the total fits.
+fn track_around<D: Dimension>(
+    dimension: &D,
+    config: &SpannedConfig,
+    direction: Direction,
+    count: usize,
+    point: usize,
+) -> Option<usize>
+    requires { HasSizes (has_along (D.has_column dimension.now) (D.has_row dimension.now)
+        direction) count }
+    ensures { let size = size_along (D.width_of dimension.now)
+        (D.height_of dimension.now) direction in
+        let line = (spanned_grid config.now).draws direction count in
+        MatchOption result (total size line count < 2 ^ 64 →
+        (point < offset size line 0) ⊎ (offset size line count ≤ point))
+        (λ i. (total size line count < 2 ^ 64) × ((i < count) × (offset size line i ≤ point)
+        × (point < offset size line (i + 1)))) }
+{
+    let ruler = Ruler::new(dimension, config, direction, count);
+    let _total = ruler.total()?;
+    ruler.number_at(point)
+}
+
 /// The position of the cell at a column of the terminal in a line of a table of the shape (rows,
 /// columns), both counted from the left edge and the top of the table: that of the first cell, by
 /// row and then by column, whose screen rectangle covers the point. None on a line of the table
@@ -122,13 +148,9 @@ pub fn cell_at<D: Dimension>(
         IsFirstOver table column line result }
 {
     let (rows, columns) = shape;
-    let across = Ruler::new(dimension, config, Direction::Columns, columns);
-    let down = Ruler::new(dimension, config, Direction::Rows, rows);
-    let _width = across.total()?;
-    let _height = down.total()?;
     let within = Position {
-        row: down.number_at(line)?,
-        col: across.number_at(column)?,
+        row: track_around(dimension, config, Direction::Rows, rows, line)?,
+        col: track_around(dimension, config, Direction::Columns, columns, column)?,
     };
     let point = Point {
         dimension,

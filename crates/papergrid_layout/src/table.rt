@@ -1,16 +1,19 @@
 //! A table as one value: a configuration with the sizes of its columns and rows.
 
-ghost use Rattle.std.specs.Prelude.{◌≡◌, ◌+◌, ◌<◌, ◌≤◌, ◌↔◌, ◌⊎◌, ◌&&◌, [], All, IfErr, IfOk, IsTrue, length, nat_le};
+ghost use Rattle.std.specs.Prelude.{◌≡◌, ◌+◌, ◌<◌, ◌≤◌, ◌↔◌, ◌⊎◌, ◌^◌, ◌&&◌, [], All, IfErr, IfOk, IsTrue, MatchResult, length, nat_le};
 ghost use Rattle.std.specs.Option.{SomeIff};
 ghost use Rattle.std.specs.Result.{IsOkAnd};
 ghost use Rattle.papergrid_values.specs.declared.direction.Direction.{Direction};
 ghost use Rattle.papergrid_values.specs.declared.direction.Direction.TheVariants.{Columns, Rows};
 ghost use Rattle.papergrid_walk.specs.Measures.{line_measure};
-ghost use Rattle.papergrid_layout.specs.Answers.{UnlessMemory};
+ghost use Rattle.papergrid_tracks.specs.declared.error.LayoutError.TheVariants.{TooLarge};
+ghost use Rattle.papergrid_layout.specs.Answers.{UnlessMemory, UnlessMemoryError};
 ghost use Rattle.papergrid_layout.specs.Places.{EndsWithin, HaveAllPlaces, IsFirstOver, IsTrackAt, StandsOver, place_at, total_along, track_count, track_line, track_size};
 ghost use Rattle.papergrid_layout.specs.Tables.{AreNotPlacedIn, IsPlacedIn, IsTable, IsTableOf, line_position, view_of};
+ghost use Rattle.papergrid_layout.specs.ForProofs.Tables.{IsMeasuredAlong};
 ghost use Rattle.papergrid_text.specs.Records.{TellsRows};
 
+use crate::along::count_of;
 use crate::both::solve_by;
 use crate::cell_rects::places;
 use crate::dimension::Dimension;
@@ -125,21 +128,20 @@ impl<'a> Table<'a> {
             columns: widths,
             rows: heights,
         };
-        let across = Ruler::new(&sizes, config, Direction::Columns, sizes.columns.len());
-        let down = Ruler::new(&sizes, config, Direction::Rows, sizes.rows.len());
-        let totals = PerDirection {
-            columns: across.total().ok_or(LayoutError::TooLarge)?,
-            rows: down.total().ok_or(LayoutError::TooLarge)?,
-        };
+        let (width, wide) = measured(alloc, config, &sizes, Direction::Columns)?;
+        let (height, high) = measured(alloc, config, &sizes, Direction::Rows)?;
         let marks = PerDirection {
-            columns: across.marks(alloc)?,
-            rows: down.marks(alloc)?,
+            columns: wide,
+            rows: high,
         };
         let spanning = spanning_cells(alloc, config, &marks)?;
         Ok(Table {
             config,
             sizes,
-            totals,
+            totals: PerDirection {
+                columns: width,
+                rows: height,
+            },
             marks,
             spanning,
         })
@@ -332,6 +334,33 @@ impl<'a> Dimension for Table<'a> {
     fn get_height(&self, row: usize) -> usize {
         self.sizes.rows[row]
     }
+}
+
+/// The total along a direction of the table of these sizes, and where its tracks begin and end.
+///
+/// # Errors
+///
+/// `TooLarge` where the total is past the greatest `usize`; `Memory` in place of any answer.
+fn measured(
+    alloc: Global,
+    config: &SpannedConfig,
+    sizes: &PerDirection<Vec<usize>>,
+    direction: Direction,
+) -> Result<(usize, Marks), LayoutError>
+    ensures { let table = view_of (record {
+      config = config.now;
+      widths = sizes.now.columns.items;
+      heights = sizes.now.rows.items;
+    }) in
+        MatchResult result (IsMeasuredAlong table direction)
+        (λ e. UnlessMemoryError e ((e ≡ TooLarge) × (2 ^ 64 ≤ total_along table direction))) }
+{
+    let count = count_of(direction, sizes.columns.len(), sizes.rows.len());
+    let ruler = Ruler::new(sizes, config, direction, count);
+    let Some(total) = ruler.total() else {
+        return Err(LayoutError::TooLarge);
+    };
+    Ok((total, ruler.marks(alloc)?))
 }
 
 impl Dimension for PerDirection<Vec<usize>> {

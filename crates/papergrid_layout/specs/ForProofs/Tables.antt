@@ -4,9 +4,9 @@ use Rattle.std.specs.Coded.{Coded, code_by, coded×, coded_list, coded_ℕ}
 use Rattle.papergrid_values.specs.declared.direction.Direction.{Direction}
 use Rattle.papergrid_values.specs.declared.direction.Direction.TheVariants.{Columns, Rows}
 use Rattle.papergrid_config.specs.declared.spanned.SpannedConfig.{SpannedConfig}
-use Rattle.papergrid_layout.specs.Places.{TableView, total_along}
+use Rattle.papergrid_layout.specs.Places.{TableView, total_along, track_count, track_line, track_size}
 use Rattle.papergrid_layout.specs.Tables.{TableParts}
-use Rattle.papergrid_layout.specs.ForProofs.Placing.{AreMarked}
+use Rattle.papergrid_layout.specs.ForProofs.Placing.{AreMarked, AreMarks}
 use Rattle.papergrid_layout.specs.ForProofs.Spanning.{HaveAllSpanning}
 use Rattle.papergrid_layout.specs.declared.marks.Marks.{Marks}
 use Rattle.papergrid_layout.specs.declared.spanning.SpanningCell.{SpanningCell}
@@ -24,3 +24,8 @@ pub record IsMeasured (table : TableView) (width height : ℕ) (across down : Ma
   pub high : height ≡ total_along table Rows
   pub marked : AreMarked table across down
   pub spanning : HaveAllSpanning table cells
+
+-- a total along a direction, which fits, and where the tracks begin and end
+abbrev pub IsMeasuredAlong : TableView → Direction → ℕ × Marks → Type 0
+IsMeasuredAlong table direction (total, marks) = (total_along table direction < 2 ^ 64) × (total ≡ total_along table direction)
+    × AreMarks (track_size table direction) (track_line table direction) (track_count table direction) marks

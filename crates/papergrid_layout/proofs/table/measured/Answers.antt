@@ -1,0 +1,47 @@
+use Rattle.std.proofs.Common.{◌≡◌, ℕ, ◌<◌, None, arith, length, refl}
+use Rattle.papergrid_values.specs.declared.direction.Direction.{Direction}
+use Rattle.papergrid_values.specs.declared.direction.Direction.TheVariants.{Columns, Rows}
+use Rattle.papergrid_walk.specs.Cells.{count_along}
+use Rattle.papergrid_layout.specs.Places.{total_along}
+use Rattle.papergrid_layout.specs.Tables.{view_of}
+use Rattle.papergrid_layout.specs.ForProofs.Rulers.{has_along}
+use Rattle.papergrid_layout.proofs.PlaceSums.{too-large}
+use Rattle.papergrid_layout.proofs.table.measured.Goals as goal
+
+-- each track has a size
+has-size : (direction : Direction) (columns rows i : ℕ) → i < count_along direction columns rows → has_along (λ k. k < columns) (λ k. k < rows) direction i
+has-size Columns columns rows i l = l
+has-size Rows columns rows i l = l
+
+pub total-requires : goal.total-requires
+total-requires c =
+    let sizes = c.args.sizes.now in
+    let wide : c.len.result ≡ length sizes.columns.items = omega (arith, c.len.ensures) in
+    let high : c.len-2.result ≡ length sizes.rows.items = omega (arith, c.len-2.ensures) in
+    rw (c.new-ruler.ensures, c.count_of-count.ensures, wide, high) (has-size c.args.direction _ _)
+
+pub returns-in_default : goal.returns-in_default
+returns-in_default c =
+    let sizes = c.args.sizes.now in
+    let wide : c.len.result ≡ length sizes.columns.items = omega (arith, c.len.ensures) in
+    let high : c.len-2.result ≡ length sizes.rows.items = omega (arith, c.len-2.ensures) in
+    let table = view_of (record { config = c.args.config.now; widths = sizes.columns.items; heights = sizes.rows.items }) in
+    (refl, too-large {T = ℕ} None (total_along table c.args.direction) 0 refl (rw (c.new-ruler.ensures, c.count_of-count.ensures, wide, high) at c.in_default.ensures))
+
+pub marks-requires-clause-sizes : goal.marks-requires-clause-sizes
+marks-requires-clause-sizes c =
+    let sizes = c.args.sizes.now in
+    let wide : c.len.result ≡ length sizes.columns.items = omega (arith, c.len.ensures) in
+    let high : c.len-2.result ≡ length sizes.rows.items = omega (arith, c.len-2.ensures) in
+    rw (c.new-ruler.ensures, c.count_of-count.ensures, wide, high) (has-size c.args.direction _ _)
+
+pub marks-requires-clause-fits : goal.marks-requires-clause-fits
+marks-requires-clause-fits c = c.in-Some.ensures.0
+
+pub returns : goal.returns
+returns c =
+    let sizes = c.args.sizes.now in
+    let wide : c.len.result ≡ length sizes.columns.items = omega (arith, c.len.ensures) in
+    let high : c.len-2.result ≡ length sizes.rows.items = omega (arith, c.len-2.ensures) in
+    let found = rw (c.new-ruler.ensures, c.count_of-count.ensures, wide, high) at c.in-Some.ensures in
+    (found.0, found.1, rw (c.new-ruler.ensures, c.count_of-count.ensures, wide, high) at c.in_ok-marks.ensures)
