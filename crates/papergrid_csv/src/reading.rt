@@ -114,7 +114,7 @@ fn shown_records<'t>(
     Ok(shown)
 }
 
-/// Adds them where there are none.
+/// Adds the fields of each record of a text, as they are shown, where there are none yet.
 fn show_all<'t>(
     alloc: Global,
     texts: &'t Bump,

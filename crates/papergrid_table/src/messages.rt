@@ -162,7 +162,7 @@ fn overlaps(
     format!(in alloc; "{later}: overlaps {earlier} at row {row}, column {col}")
 }
 
-/// The first span that covers a position, after the first one that begins at another: the later one first.
+/// Two spans that begin apart and cover a position: the first one that does, behind the next one that begins elsewhere.
 fn overlap_at(spans: &[Span], position: Position) -> Option<(&Span, &Span)> {
     let mut covering = spans.iter().filter(|span| covers(span, position));
     let earlier = covering.next()?;

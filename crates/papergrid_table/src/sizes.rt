@@ -28,8 +28,8 @@ fn certified_of(
     request: &Request,
     Rows { columns, rows }: Rows<'_>,
 ) -> Result<Option<PerDirection<Solved>>, AllocError> {
-    let config = configuration(alloc, request, rows.len())?;
     let count = rows.len();
+    let config = configuration(alloc, request, count)?;
     let records = VecRecords::with_size(rows, count, columns);
     unless_refused(certify(alloc, &records, &config, request.sizing))
 }
