@@ -4,7 +4,7 @@ ghost use Rattle.std.specs.Prelude.{◌≡◌, ℕ, IfOk, List, map, option_copi
 ghost use Rattle.papergrid_values.specs.Colors.{texts_of};
 ghost use Rattle.papergrid_text.specs.LineCache.{answered_lines};
 ghost use Rattle.papergrid_draw.specs.Contents.{single_line};
-ghost use Rattle.papergrid_grid.specs.Cells.{lines_at, text_lines};
+ghost use Rattle.papergrid_grid.specs.Cells.{cell_of, lines_at, text_lines};
 
 use crate::color::AsANSIStr;
 use papergrid_draw::source::Cells;
@@ -13,6 +13,13 @@ use papergrid_text::{Cell, Text};
 use papergrid_values::{ANSIStr, Colors, Position};
 use std::alloc::{AllocError, Global};
 use std::convert::AsStr;
+
+/// The cell that rows have at a position, if there is one.
+fn cell_in<T>(rows: &[Vec<T>], position: Position) -> Option<&T>
+    ensures { option_copied result ≡ cell_of (map (λ row. row.items) rows.now) position }
+{
+    rows.get(position.row)?.get(position.col)
+}
 
 /// The cells of rows that are held, which know their lines and widths.
 #[derive(Clone, Copy, Debug)]
@@ -34,14 +41,11 @@ where
     ghost color = { λ s p. option_map C.Color.texts (C.color_at s.colors.now p) };
 
     fn cell(&self, position: Position) -> Result<Option<&'a T>, AllocError> {
-        match self.rows.get(position.row) {
-            Some(row) => Ok(row.get(position.col)),
-            None => Ok(None),
-        }
+        Ok(cell_in(self.rows, position))
     }
 
     fn line(&self, position: Position) -> Option<(&str, usize)> {
-        let cell = self.rows.get(position.row)?.get(position.col)?;
+        let cell = cell_in(self.rows, position)?;
         if cell.count_lines() != 1 {
             return None;
         }
@@ -98,6 +102,13 @@ impl<S: AsStr> TextRow for &[S] {
     }
 }
 
+/// The text that rows have at a position, if there is one.
+pub fn text_in<R: TextRow>(rows: &[R], position: Position) -> Option<&str>
+    ensures { option_copied result ≡ cell_of (map R.texts rows.now) position }
+{
+    rows.get(position.row)?.text(position.col)
+}
+
 /// The line of a text, with its width, where it has one line and no more.
 fn single_line(text: &str) -> Option<(&str, usize)>
     ensures { option_map (λ line. (line.0.now, line.1)) result
@@ -141,17 +152,14 @@ where
     ghost color = { λ s p. option_map C.Color.texts (C.color_at s.colors.now p) };
 
     fn cell(&self, position: Position) -> Result<Option<Text<&'a str>>, AllocError> {
-        let Some(row) = self.rows.get(position.row) else {
-            return Ok(None);
-        };
-        match row.text(position.col) {
+        match text_in(self.rows, position) {
             Some(text) => Ok(Some(measured(self.alloc, text)?)),
             None => Ok(None),
         }
     }
 
     fn line(&self, position: Position) -> Option<(&str, usize)> {
-        single_line(self.rows.get(position.row)?.text(position.col)?)
+        single_line(text_in(self.rows, position)?)
     }
 
     fn color(&self, position: Position) -> Option<ANSIStr<'_>> {

@@ -5,7 +5,7 @@ ghost use Rattle.papergrid_draw.specs.declared.error.DrawError.TheVariants.{Memo
 ghost use Rattle.papergrid_grid.specs.Cells.{lines_at};
 ghost use Rattle.papergrid_grid.specs.Compact.{AreRowsTooHigh, IsCompactTable, compact_height, first_line, first_text};
 
-use crate::cells::{TextRow, color_of};
+use crate::cells::{TextRow, color_of, text_in};
 use crate::color::AsANSIStr;
 use crate::held::held_rows;
 use papergrid_config::{CompactConfig, SpannedConfig};
@@ -50,10 +50,7 @@ where
     ghost color = { λ s p. option_map C.Color.texts (C.color_at s.colors.now p) };
 
     fn cell(&self, position: Position) -> Result<Option<Text<&'a str>>, AllocError> {
-        let Some(row) = self.rows.get(position.row) else {
-            return Ok(None);
-        };
-        let Some(text) = row.text(position.col) else {
+        let Some(text) = text_in(self.rows, position) else {
             return Ok(None);
         };
         let line = first_std_line(text);
@@ -62,8 +59,7 @@ where
     }
 
     fn line(&self, position: Position) -> Option<(&str, usize)> {
-        let text = self.rows.get(position.row)?.text(position.col)?;
-        let line = first_std_line(text);
+        let line = first_std_line(text_in(self.rows, position)?);
         Some((line, get_line_width(line)))
     }
 
