@@ -1,6 +1,6 @@
 //! The cells of rows that are held, with the colours of their texts.
 
-ghost use Rattle.std.specs.Prelude.{◌≡◌, ℕ, IfOk, List, map, option_copied, option_map, slice_get};
+ghost use Rattle.std.specs.Prelude.{◌≡◌, ⊤, ℕ, IfOk, List, map, option_copied, option_map, slice_get};
 ghost use Rattle.papergrid_values.specs.Colors.{texts_of};
 ghost use Rattle.papergrid_text.specs.LineCache.{answered_lines};
 ghost use Rattle.papergrid_draw.specs.Contents.{single_line};
@@ -22,12 +22,26 @@ fn cell_in<T>(rows: &[Vec<T>], position: Position) -> Option<&T>
 }
 
 /// The cells of rows that are held, which know their lines and widths.
-#[derive(Clone, Copy, Debug)]
+#[derive(Copy, Debug)]
 pub struct RecordCells<'a, T, C> {
     /// The rows, as a `VecRecords` lends them.
     pub rows: &'a [Vec<T>],
     /// The colours of the texts.
     pub colors: &'a C,
+}
+
+// By hand: docs/DECISIONS.md, "Clones".
+impl<'a, T: Clone, C: Clone> Clone for RecordCells<'a, T, C> {
+    ghost is_clone = { λ x y. y ≡ x };
+
+    ghost is_infallible = { λ _. ⊤ };
+
+    fn clone(&self) -> Result<RecordCells<'a, T, C>, AllocError> {
+        Ok(RecordCells {
+            rows: self.rows,
+            colors: self.colors,
+        })
+    }
 }
 
 impl<'a, T: Cell, C: Colors> Cells for RecordCells<'a, T, C>
@@ -132,13 +146,28 @@ fn measured(alloc: Global, text: &str) -> Result<Text<&str>, AllocError>
 }
 
 /// Rows of texts as cells. A text is measured each time that it is read. One of several lines allocates then.
-#[derive(Clone, Copy, Debug)]
+#[derive(Copy, Debug)]
 pub struct TextCells<'a, R, C> {
     pub alloc: Global,
     /// The rows.
     pub rows: &'a [R],
     /// The colours of the texts.
     pub colors: &'a C,
+}
+
+// By hand: docs/DECISIONS.md, "Clones".
+impl<'a, R: Clone, C: Clone> Clone for TextCells<'a, R, C> {
+    ghost is_clone = { λ x y. y ≡ x };
+
+    ghost is_infallible = { λ _. ⊤ };
+
+    fn clone(&self) -> Result<TextCells<'a, R, C>, AllocError> {
+        Ok(TextCells {
+            alloc: self.alloc,
+            rows: self.rows,
+            colors: self.colors,
+        })
+    }
 }
 
 impl<'a, R: TextRow, C: Colors> Cells for TextCells<'a, R, C>

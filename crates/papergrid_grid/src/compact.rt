@@ -21,14 +21,14 @@ use papergrid_draw::transfer::Sink;
 use papergrid_layout::Dimension;
 use papergrid_text::{IntoRecords, Records};
 use papergrid_values::Colors;
-use std::alloc::Global;
+use std::alloc::{AllocError, Global};
 use std::convert::AsStr;
 use std::fmt;
 
 /// A table of records whose cells are texts: one padding, one alignment and one frame for all cells, no spans, and of
 /// each text the first line. It has as many columns as the records tell, with the widths of the dimension, and a row for
 /// each of theirs, which is one line high, with the paddings above and below.
-#[derive(Clone, Debug, Drop)]
+#[derive(Debug, Drop)]
 pub struct CompactGrid<'a, R, D, C> {
     /// The cells.
     pub records: R,
@@ -80,6 +80,23 @@ impl<'a, R, D, C> CompactGrid<'a, R, D, C> {
             dimension,
             colors,
         }
+    }
+}
+
+// By hand: docs/DECISIONS.md, "Clones".
+impl<'a, R: Clone, D: Clone, C: Clone> Clone for CompactGrid<'a, R, D, C> {
+    ghost is_clone = { λ x y. R.is_clone x.records y.records × (y.config ≡ x.config)
+        × (y.dimension ≡ x.dimension) × (y.colors ≡ x.colors) };
+
+    ghost is_infallible = { λ x. R.is_infallible x.records };
+
+    fn clone(&self) -> Result<CompactGrid<'a, R, D, C>, AllocError> {
+        Ok(CompactGrid {
+            records: self.records.clone()?,
+            config: self.config,
+            dimension: self.dimension,
+            colors: self.colors,
+        })
     }
 }
 

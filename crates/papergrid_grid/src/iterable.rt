@@ -22,14 +22,14 @@ use papergrid_draw::transfer::Sink;
 use papergrid_layout::Dimension;
 use papergrid_text::{IntoRecords, Records};
 use papergrid_values::Colors;
-use std::alloc::Global;
+use std::alloc::{AllocError, Global};
 use std::convert::AsStr;
 use std::fmt;
 
 /// A table of records whose cells are texts. It has as many columns as the records tell, a row for each of theirs, the
 /// sizes of the dimension, and of each row the cells that lie in it. A printer walks the records once, and holds their
 /// cells, whatever number of rows they hint at.
-#[derive(Clone, Debug, Drop)]
+#[derive(Debug, Drop)]
 pub struct IterGrid<'a, R, D, C> {
     /// The cells.
     pub records: R,
@@ -62,6 +62,23 @@ impl<'a, R, D, C> IterGrid<'a, R, D, C> {
             dimension,
             colors,
         }
+    }
+}
+
+// By hand: docs/DECISIONS.md, "Clones".
+impl<'a, R: Clone, D: Clone, C: Clone> Clone for IterGrid<'a, R, D, C> {
+    ghost is_clone = { λ x y. R.is_clone x.records y.records × (y.config ≡ x.config)
+        × (y.dimension ≡ x.dimension) × (y.colors ≡ x.colors) };
+
+    ghost is_infallible = { λ x. R.is_infallible x.records };
+
+    fn clone(&self) -> Result<IterGrid<'a, R, D, C>, AllocError> {
+        Ok(IterGrid {
+            records: self.records.clone()?,
+            config: self.config,
+            dimension: self.dimension,
+            colors: self.colors,
+        })
     }
 }
 

@@ -20,12 +20,12 @@ use papergrid_draw::transfer::Sink;
 use papergrid_layout::Dimension;
 use papergrid_text::{Cell, ExactRecords, Records, VecRecords};
 use papergrid_values::Colors;
-use std::alloc::Global;
+use std::alloc::{AllocError, Global};
 use std::fmt;
 
 /// A table of records whose cells know their lines and widths. It has the numbers of rows and columns that the
 /// records tell, the sizes of the dimension, and of the rows that the records hold the cells that lie in it.
-#[derive(Clone, Copy, Debug)]
+#[derive(Copy, Debug)]
 pub struct PeekableGrid<'a, T, D, C> {
     /// The cells.
     pub records: &'a VecRecords<T>,
@@ -35,6 +35,22 @@ pub struct PeekableGrid<'a, T, D, C> {
     pub dimension: &'a D,
     /// The colours of the texts.
     pub colors: &'a C,
+}
+
+// By hand: docs/DECISIONS.md, "Clones".
+impl<'a, T: Clone, D: Clone, C: Clone> Clone for PeekableGrid<'a, T, D, C> {
+    ghost is_clone = { λ x y. y ≡ x };
+
+    ghost is_infallible = { λ _. ⊤ };
+
+    fn clone(&self) -> Result<PeekableGrid<'a, T, D, C>, AllocError> {
+        Ok(PeekableGrid {
+            records: self.records,
+            config: self.config,
+            dimension: self.dimension,
+            colors: self.colors,
+        })
+    }
 }
 
 impl<'a, T, D, C> PeekableGrid<'a, T, D, C> {
