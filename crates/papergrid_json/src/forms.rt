@@ -251,5 +251,5 @@ pub const SETTINGS: [Form; 41] = [
 
 /// The setting of this name.
 pub fn form_named(name: &str) -> Option<Form> {
-    SETTINGS.iter().copied().find(|form| form.0 == name)
+    SETTINGS.iter().find(|form| form.0 == name).copied()
 }

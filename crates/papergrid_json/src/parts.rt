@@ -23,20 +23,37 @@ pub fn with_parts<'v, P: Named>(
     spot: &Spot<'v>,
     mut parts: P,
 ) -> Result<P, Fault<'v>> {
+    set_parts(alloc, spot, &mut parts)?;
+    Ok(parts)
+}
+
+/// Sets the parts that an object tells.
+fn set_parts<'v, P: Named>(alloc: Global, spot: &Spot<'v>, parts: &mut P) -> Result<(), Fault<'v>> {
     let Some(members) = spot.members() else {
         return Err(spot.unexpected(P::NAMES));
     };
     for name in members.keys() {
-        let field = spot.field(name.as_str());
-        if field.is_empty() {
-            continue;
-        }
-        let part = <P::Part as Told>::told(alloc, &field)?;
-        if !parts.set(name.as_str(), part) {
-            return Err(spot.unexpected(P::NAMES));
-        }
+        set_part(alloc, spot, name.as_str(), parts)?;
     }
-    Ok(parts)
+    Ok(())
+}
+
+/// Sets the part of this name, if an object tells it.
+fn set_part<'v, P: Named>(
+    alloc: Global,
+    spot: &Spot<'v>,
+    name: &'v str,
+    parts: &mut P,
+) -> Result<(), Fault<'v>> {
+    let field = spot.field(name);
+    if field.is_empty() {
+        return Ok(());
+    }
+    let part = <P::Part as Told>::told(alloc, &field)?;
+    if !parts.set(name, part) {
+        return Err(spot.unexpected(P::NAMES));
+    }
+    Ok(())
 }
 
 impl<T: Told> Named for Borders<T> {
@@ -147,6 +164,6 @@ impl<T: Told> Named for Sides<T> {
 // A side that is told has a colour.
 impl Told for Option<ANSIBuf> {
     fn told<'v>(alloc: Global, spot: &Spot<'v>) -> Result<Option<ANSIBuf>, Fault<'v>> {
-        Ok(Some(ANSIBuf::told(alloc, spot)?))
+        ANSIBuf::told(alloc, spot).map(Some)
     }
 }

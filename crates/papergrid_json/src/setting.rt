@@ -31,13 +31,12 @@ fn told<'v>(
     scope: Scope,
     spot: &Spot<'v>,
 ) -> Result<Setting, Fault<'v>> {
-    let first = spot.at(1);
     match scope {
         Scope::All => Ok(of_all(name)),
-        Scope::Table => of_table(alloc, name, &first),
-        Scope::Line => of_line(alloc, name, first.number()?, &spot.at(2)),
-        Scope::Entity => of_entity(alloc, name, entity(&first)?, &spot.at(2)),
-        Scope::Position => of_cell(alloc, name, position(&first)?, spot),
+        Scope::Table => of_table(alloc, name, &spot.at(1)),
+        Scope::Line => of_line(alloc, name, spot),
+        Scope::Entity => of_entity(alloc, name, spot),
+        Scope::Position => of_cell(alloc, name, spot),
     }
 }
 
@@ -57,69 +56,85 @@ fn of_all(name: &str) -> Setting {
 
 /// One of the margins or of the frame, by its value.
 fn of_table<'v>(alloc: Global, name: &str, value: &Spot<'v>) -> Result<Setting, Fault<'v>> {
-    Ok(match name {
-        "SetMargin" => Setting::SetMargin(with_parts(alloc, value, no_indents())?),
-        "SetMarginColor" => Setting::SetMarginColor(with_parts(alloc, value, no_colors())?),
+    match name {
+        "SetMargin" => with_parts(alloc, value, no_indents()).map(Setting::SetMargin),
+        "SetMarginColor" => with_parts(alloc, value, no_colors()).map(Setting::SetMarginColor),
         "SetMarginOffset" => {
             let starts = Sides::filled(Offset::Start(0));
-            Setting::SetMarginOffset(with_parts(alloc, value, starts)?)
+            with_parts(alloc, value, starts).map(Setting::SetMarginOffset)
         }
-        "SetBorders" => Setting::SetBorders(with_parts(alloc, value, Borders::empty())?),
-        "SetBorderDefault" => Setting::SetBorderDefault(value.character()?),
-        "SetBordersColor" => Setting::SetBordersColor(with_parts(alloc, value, Borders::empty())?),
-        "SetBorderColorDefault" => Setting::SetBorderColorDefault(ANSIBuf::told(alloc, value)?),
-        _ => Setting::SetBordersMissing(value.character()?),
-    })
+        "SetBorders" => with_parts(alloc, value, Borders::empty()).map(Setting::SetBorders),
+        "SetBorderDefault" => value.character().map(Setting::SetBorderDefault),
+        "SetBordersColor" => {
+            with_parts(alloc, value, Borders::empty()).map(Setting::SetBordersColor)
+        }
+        "SetBorderColorDefault" => {
+            ANSIBuf::told(alloc, value).map(Setting::SetBorderColorDefault)
+        }
+        _ => value.character().map(Setting::SetBordersMissing),
+    }
 }
 
-/// One of the line with this number, by its value.
-fn of_line<'v>(
-    alloc: Global,
-    name: &str,
-    line: usize,
-    value: &Spot<'v>,
-) -> Result<Setting, Fault<'v>> {
-    Ok(match name {
+/// One of the line with a number, by its value.
+fn of_line<'v>(alloc: Global, name: &str, spot: &Spot<'v>) -> Result<Setting, Fault<'v>> {
+    let line = spot.at(1).number()?;
+    let value = spot.at(2);
+    match name {
         "InsertHorizontalLine" => {
-            Setting::InsertHorizontalLine(line, with_parts(alloc, value, HorizontalLine::empty())?)
+            let parts = with_parts(alloc, &value, HorizontalLine::empty());
+            parts.map(|parts| Setting::InsertHorizontalLine(line, parts))
         }
-        "RemoveHorizontalLine" => Setting::RemoveHorizontalLine(line, value.number()?),
+        "RemoveHorizontalLine" => value
+            .number()
+            .map(|rows| Setting::RemoveHorizontalLine(line, rows)),
         "InsertVerticalLine" => {
-            Setting::InsertVerticalLine(line, with_parts(alloc, value, VerticalLine::empty())?)
+            let parts = with_parts(alloc, &value, VerticalLine::empty());
+            parts.map(|parts| Setting::InsertVerticalLine(line, parts))
         }
-        _ => Setting::RemoveVerticalLine(line, value.number()?),
-    })
+        _ => value
+            .number()
+            .map(|columns| Setting::RemoveVerticalLine(line, columns)),
+    }
 }
 
 /// One of an entity, by its value.
-fn of_entity<'v>(
-    alloc: Global,
-    name: &str,
-    entity: Entity,
-    value: &Spot<'v>,
-) -> Result<Setting, Fault<'v>> {
-    Ok(match name {
-        "SetPadding" => Setting::SetPadding(entity, with_parts(alloc, value, no_indents())?),
-        "SetPaddingColor" => {
-            Setting::SetPaddingColor(entity, with_parts(alloc, value, no_colors())?)
+fn of_entity<'v>(alloc: Global, name: &str, spot: &Spot<'v>) -> Result<Setting, Fault<'v>> {
+    let entity = entity(&spot.at(1))?;
+    let value = spot.at(2);
+    match name {
+        "SetPadding" => {
+            let padding = with_parts(alloc, &value, no_indents());
+            padding.map(|padding| Setting::SetPadding(entity, padding))
         }
-        "SetTrimHorizontal" => Setting::SetTrimHorizontal(entity, value.flag()?),
-        "SetTrimVertical" => Setting::SetTrimVertical(entity, value.flag()?),
-        "SetLineAlignment" => Setting::SetLineAlignment(entity, value.flag()?),
-        "SetAlignmentHorizontal" => Setting::SetAlignmentHorizontal(entity, horizontal(value)?),
-        "SetAlignmentVertical" => Setting::SetAlignmentVertical(entity, vertical(value)?),
-        "SetJustification" => Setting::SetJustification(entity, value.character()?),
-        _ => Setting::SetJustificationColor(entity, color(alloc, value)?),
-    })
+        "SetPaddingColor" => {
+            let colors = with_parts(alloc, &value, no_colors());
+            colors.map(|colors| Setting::SetPaddingColor(entity, colors))
+        }
+        "SetTrimHorizontal" => value
+            .flag()
+            .map(|trims| Setting::SetTrimHorizontal(entity, trims)),
+        "SetTrimVertical" => value
+            .flag()
+            .map(|trims| Setting::SetTrimVertical(entity, trims)),
+        "SetLineAlignment" => value
+            .flag()
+            .map(|aligns| Setting::SetLineAlignment(entity, aligns)),
+        "SetAlignmentHorizontal" => {
+            horizontal(&value).map(|alignment| Setting::SetAlignmentHorizontal(entity, alignment))
+        }
+        "SetAlignmentVertical" => {
+            vertical(&value).map(|alignment| Setting::SetAlignmentVertical(entity, alignment))
+        }
+        "SetJustification" => value
+            .character()
+            .map(|fill| Setting::SetJustification(entity, fill)),
+        _ => color(alloc, &value).map(|color| Setting::SetJustificationColor(entity, color)),
+    }
 }
 
 /// One of the border, the spans or the overridden characters at a position.
-fn of_cell<'v>(
-    alloc: Global,
-    name: &str,
-    position: Position,
-    spot: &Spot<'v>,
-) -> Result<Setting, Fault<'v>> {
+fn of_cell<'v>(alloc: Global, name: &str, spot: &Spot<'v>) -> Result<Setting, Fault<'v>> {
+    let position = position(&spot.at(1))?;
     let value = spot.at(2);
     Ok(match name {
         "SetBorder" => Setting::SetBorder(position, with_parts(alloc, &value, Border::empty())?),

@@ -29,8 +29,8 @@ impl Told for Indent {
 impl Told for Offset {
     fn told<'v>(_alloc: Global, spot: &Spot<'v>) -> Result<Offset, Fault<'v>> {
         match spot.word() {
-            ("Start", 1) => Ok(Offset::Start(spot.at(1).number()?)),
-            ("End", 1) => Ok(Offset::End(spot.at(1).number()?)),
+            ("Start", 1) => spot.at(1).number().map(Offset::Start),
+            ("End", 1) => spot.at(1).number().map(Offset::End),
             _ => Err(spot.unexpected("[\"Start\", number] or [\"End\", number]")),
         }
     }
@@ -52,28 +52,20 @@ pub fn color<'v>(alloc: Global, spot: &Spot<'v>) -> Result<Option<ANSIBuf>, Faul
     if spot.is_empty() {
         return Ok(None);
     }
-    Ok(Some(ANSIBuf::told(alloc, spot)?))
+    ANSIBuf::told(alloc, spot).map(Some)
 }
 
 /// The entity that stands at a place.
 pub fn entity<'v>(spot: &Spot<'v>) -> Result<Entity, Fault<'v>> {
     match spot.word() {
         ("Global", 0) => Ok(Entity::Global),
-        ("Column", 1) => column(&spot.at(1)),
-        ("Row", 1) => row(&spot.at(1)),
+        ("Column", 1) => spot.at(1).number().map(Entity::Column),
+        ("Row", 1) => spot.at(1).number().map(Entity::Row),
         ("Cell", 2) => cell(&spot.at(1), &spot.at(2)),
         _ => Err(spot.unexpected(
             "\"Global\", [\"Column\", number], [\"Row\", number] or [\"Cell\", row, column]",
         )),
     }
-}
-
-fn column<'v>(number: &Spot<'v>) -> Result<Entity, Fault<'v>> {
-    Ok(Entity::Column(number.number()?))
-}
-
-fn row<'v>(number: &Spot<'v>) -> Result<Entity, Fault<'v>> {
-    Ok(Entity::Row(number.number()?))
 }
 
 fn cell<'v>(row: &Spot<'v>, column: &Spot<'v>) -> Result<Entity, Fault<'v>> {

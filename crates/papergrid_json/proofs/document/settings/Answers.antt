@@ -1,5 +1,5 @@
-use Rattle.std.proofs.Common.{subst, sym, true, ◌≡◌, []}
-use Rattle.std.proofs.lemmas.List.Elements.{All-append, All-cons, All-nil}
+use Rattle.std.proofs.Common.{List, subst, sym, true, ◌≡◌}
+use Rattle.std.proofs.lemmas.List.Elements.{All-push}
 use Rattle.papergrid_config.specs.Applied.{is_in_range}
 use Rattle.papergrid_config.specs.declared.setting.Setting.{Setting}
 use Rattle.papergrid_json.specs.Documents.{AreInRange}
@@ -8,5 +8,5 @@ use Rattle.papergrid_json.proofs.document.settings.Goals as goal
 pub loop-index-preserved : goal.loop-index-preserved
 loop-index-preserved c =
     let in_range = λ (setting : Setting). is_in_range setting ≡ true in
-    subst AreInRange (sym c.in_ok-add.ensures.0)
-    (All-append in_range c.loop-index.settings.items _ c.loop-index.invariant (All-cons in_range _ [] c.in_ok-add.ensures.1 (All-nil in_range)))
+    subst AreInRange (sym {A = List Setting} c.in_ok-push.ensures.items)
+    (All-push in_range c.loop-index.settings.items _ c.loop-index.invariant c.in_ok-in_range.ensures)
