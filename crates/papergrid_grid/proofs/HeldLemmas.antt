@@ -1,6 +1,9 @@
 -- Rows held, one more at a time, and their texts.
-use Rattle.std.proofs.Common.{◌≡◌, ◌++◌, ◌∙◌, ℕ, Global, List, [], ◌∷◌, Vec, ap, map, refl, subst, sym}
-use Rattle.std.specs.List.{AllZip}
+use Rattle.std.proofs.Common.{◌≡◌, ◌++◌, ◌∙◌, ℕ, Bor, Global, List, [], ◌∷◌, None, Option, Some, Vec, ap, arith, length, map, refl, subst, sym}
+use Rattle.std.specs.List.{AllZip, slice_get}
+use Rattle.std.specs.Option.{option_copied, option_map}
+use Rattle.std.specs.Slice.{IsItemAt}
+use Rattle.std.proofs.lemmas.Option.{slice_get-map, slice_get_past, slice_get_read}
 use Rattle.std.proofs.lemmas.List.{map-append}
 use Rattle.std.proofs.lemmas.Simd.{map-map}
 use Rattle.papergrid_values.specs.declared.position.Position.{Position}
@@ -22,3 +25,13 @@ pub lines_of_texts : {T : Type 0} (lines : List ℕ → List (List ℕ × ℕ)) 
 lines_of_texts {T = T} lines text rows p =
     ap (λ texts. lines_at lines texts p) (sym (map-map (map text) (λ (row : Vec T Global). row.items) rows))
     ∙ sym (lines_of_made text lines (λ cell. lines (text cell)) (λ cell. refl) (map (λ row. row.items) rows) p)
+
+-- the item that a slice lends
+pub lent_at : {A : Type 0} (items : List A) (i : ℕ) (item : Option (Bor A)) → IsItemAt items i item → option_copied item ≡ slice_get items i
+lent_at items i None is = sym (slice_get_past items i (omega arith))
+lent_at items i (Some item) is = sym (slice_get_read items (length items) i item.now refl (omega arith) is.1)
+
+-- what it is made into stands at its place in the list of all
+pub made_at : {A B : Type 0} (of : A → B) (items : List A) (i : ℕ) (item : Option (Bor A)) → IsItemAt items i item →
+    option_map of (option_copied item) ≡ slice_get (map of items) i
+made_at of items i item is = ap (option_map of) (lent_at items i item is) ∙ sym (slice_get-map of items i)
