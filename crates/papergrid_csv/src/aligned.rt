@@ -40,12 +40,17 @@ pub fn push_alignments(
 {
     match alignment {
         Alignment::Fixed(alignment) => {
-            settings.push(Setting::SetAlignmentHorizontal(Entity::Global, alignment))?;
-            Ok(())
+            push_setting(
+                Setting::SetAlignmentHorizontal(Entity::Global, alignment),
+                settings,
+            )
         }
         Alignment::Auto => {
             let left = AlignmentHorizontal::Left;
-            settings.push(Setting::SetAlignmentHorizontal(Entity::Global, left))?;
+            push_setting(
+                Setting::SetAlignmentHorizontal(Entity::Global, left),
+                settings,
+            )?;
             push_numbers(below, columns, settings)
         }
     }
@@ -77,7 +82,17 @@ fn push_aligned(
     ensures { OnOk result (settings.new.items
         ≡ settings.old.items ++ SetAlignmentHorizontal (Column column) alignment ∷ []) }
 {
-    settings.push(Setting::SetAlignmentHorizontal(Entity::Column(column), alignment))?;
+    push_setting(
+        Setting::SetAlignmentHorizontal(Entity::Column(column), alignment),
+        settings,
+    )
+}
+
+/// Adds a setting. One that finds no room is let go here, and in no other place.
+pub fn push_setting(setting: Setting, settings: &mut Vec<Setting>) -> Result<(), AllocError>
+    ensures { OnOk result (settings.new.items ≡ settings.old.items ++ setting ∷ []) }
+{
+    settings.push(setting)?;
     Ok(())
 }
 

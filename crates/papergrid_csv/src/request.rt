@@ -12,7 +12,7 @@ ghost use Rattle.papergrid_csv.specs.declared.reading.Format.TheVariants.{Csv};
 ghost use Rattle.papergrid_csv.specs.declared.request.Alignment.TheVariants.{Fixed};
 ghost use Rattle.papergrid_csv.specs.declared.style.Style.TheVariants.{Plain};
 
-use crate::aligned::{push_alignments, push_entries, rows_below};
+use crate::aligned::{push_alignments, push_entries, push_setting, rows_below};
 use crate::reading::{Format, Reading, Rows};
 use crate::style::Style;
 use papergrid_config::Setting;
@@ -138,9 +138,15 @@ pub fn settings(
 {
     let below = rows_below(request.has_head, &rows.rows);
     let mut settings = line_settings(alloc, request, rows.rows.len())?;
-    settings.push(Setting::SetPadding(Entity::Global, request.padding))?;
+    push_setting(
+        Setting::SetPadding(Entity::Global, request.padding),
+        &mut settings,
+    )?;
     push_alignments(below, rows.columns, request.alignment, &mut settings)?;
-    settings.push(Setting::SetAlignmentVertical(Entity::Global, request.vertical))?;
+    push_setting(
+        Setting::SetAlignmentVertical(Entity::Global, request.vertical),
+        &mut settings,
+    )?;
     push_entries(request, rows, below, &mut settings)?;
     push_spans(&request.spans, &mut settings)?;
     Ok(settings)
@@ -152,10 +158,10 @@ fn line_settings(alloc: Global, request: &Request, rows: usize) -> Result<Vec<Se
         ≡ SetBorders request.now.frame ∷ head_line request.now.head rows) }
 {
     let mut settings = Vec::new(alloc);
-    settings.push(Setting::SetBorders(request.frame))?;
+    push_setting(Setting::SetBorders(request.frame), &mut settings)?;
     if let Some(line) = request.head {
         if 1 < rows {
-            settings.push(Setting::InsertHorizontalLine(1, line))?;
+            push_setting(Setting::InsertHorizontalLine(1, line), &mut settings)?;
         }
     }
     Ok(settings)
@@ -167,8 +173,11 @@ fn push_spans(spans: &[Span], settings: &mut Vec<Setting>) -> Result<(), AllocEr
         ≡ settings.old.items ++ flat_map span_settings spans.now) }
 {
     for span in spans {
-        settings.push(Setting::SetColumnSpan(span.position, span.columns))?;
-        settings.push(Setting::SetRowSpan(span.position, span.rows))?;
+        push_setting(
+            Setting::SetColumnSpan(span.position, span.columns),
+            settings,
+        )?;
+        push_setting(Setting::SetRowSpan(span.position, span.rows), settings)?;
     }
     Ok(())
 }

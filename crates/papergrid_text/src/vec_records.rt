@@ -1,7 +1,7 @@
 //! Records that hold their rows. Source: `records/vec_records/mod.rs`.
 
 ghost use Rattle.std.specs.Prelude.{◌≡◌, map, length, ⊤, Some};
-ghost use Rattle.papergrid_text.specs.Held.{first_length};
+ghost use Rattle.papergrid_text.specs.Held.{HasCell, cell_at, first_length};
 ghost use Rattle.papergrid_text.specs.HeldRows.{vec_records_of, rows_held, row_count, column_count};
 
 use crate::cell::Cell;
@@ -42,6 +42,14 @@ impl<T> VecRecords<T> {
             count_rows,
             count_cols,
         }
+    }
+
+    // The cell at a position.
+    fn cell(&self, position: Position) -> &T
+        requires { HasCell (rows_held self.now).items position }
+        ensures { cell_at (rows_held self.now).items position ≡ Some result.now }
+    {
+        &self.rows[position.row][position.col]
     }
 }
 
@@ -127,7 +135,7 @@ impl<T: Cell> PeekableRecords for VecRecords<T> {
         HoldsOfCell (IsPlainCell T.text T.lines T.width) (rows_held s).items p };
 
     fn get_text(&self, position: Position) -> &str {
-        self.rows[position.row][position.col].text()
+        self.cell(position).text()
     }
 
     fn get_line(&self, position: Position, line: usize) -> &str
@@ -137,7 +145,7 @@ impl<T: Cell> PeekableRecords for VecRecords<T> {
         ensures { HoldsOfCell (λ cell. result.now ≡ (slice_index_or (T.lines cell) line ([], 0)).0)
             (rows_held self.now).items position }
     {
-        self.rows[position.row][position.col].line(line)
+        self.cell(position).line(line)
     }
 
     fn count_lines(&self, position: Position) -> usize
@@ -145,14 +153,14 @@ impl<T: Cell> PeekableRecords for VecRecords<T> {
         ensures { HoldsOfCell (λ cell. result ≡ length (T.lines cell))
             (rows_held self.now).items position }
     {
-        self.rows[position.row][position.col].count_lines()
+        self.cell(position).count_lines()
     }
 
     fn get_width(&self, position: Position) -> usize
         requires { HasCell (rows_held self.now).items position }
         ensures { HoldsOfCell (λ cell. result ≡ T.width cell) (rows_held self.now).items position }
     {
-        self.rows[position.row][position.col].width()
+        self.cell(position).width()
     }
 
     fn get_line_width(&self, position: Position, line: usize) -> usize
@@ -162,7 +170,7 @@ impl<T: Cell> PeekableRecords for VecRecords<T> {
         ensures { HoldsOfCell (λ cell. result ≡ (slice_index_or (T.lines cell) line ([], 0)).1)
             (rows_held self.now).items position }
     {
-        self.rows[position.row][position.col].line_width(line)
+        self.cell(position).line_width(line)
     }
 }
 

@@ -12,5 +12,5 @@ loop-span-preserved c =
     let none : Span = record { position = record { row = 0; col = 0 }; rows = 0; columns = 0 } in
     let span = get_or spans c.loop-span.span-index none in
     entry-next span_settings spans c.loop-span.span-index span c.loop-span.settings.items _ _ c.loop-span-test.true (get_or_default spans c.loop-span.span-index span none c.loop-span-test.true)
-    (c.in_ok-push-2.ensures.items ∙ ap (λ l. l ++ SetRowSpan span.position span.rows ∷ []) c.in_ok-push.ensures.items
+    (c.in_ok-push_setting-2.ensures ∙ ap (λ l. l ++ SetRowSpan span.position span.rows ∷ []) c.in_ok-push_setting.ensures
     ∙ append_assoc c.loop-span.settings.items (SetColumnSpan span.position span.columns ∷ []) (SetRowSpan span.position span.rows ∷ [])) c.loop-span.invariant
