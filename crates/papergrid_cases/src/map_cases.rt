@@ -3,7 +3,7 @@
 use crate::answer::Answer;
 use crate::pair::Kind;
 use crate::reading::Words;
-use crate::running::Outcome;
+use crate::running::{Outcome, add_to};
 use crate::size_questions::Shown;
 use papergrid_maps::{EntityMap, MapCall};
 use std::alloc::{AllocError, Global};
@@ -35,8 +35,7 @@ impl Kind for Map {
                 return Ok(());
             }
         };
-        self.calls.push(call)?;
-        Ok(())
+        add_to(&mut self.calls, call)
     }
 
     fn settle(&mut self, _words: &mut Words<'_>) -> Outcome {

@@ -7,6 +7,12 @@ use std::alloc::{AllocError, Global};
 /// How what a line says ends: it is done, or an allocation failed.
 pub type Outcome = Result<(), AllocError>;
 
+/// Adds one to a list, unless memory runs out.
+pub fn add_to<T: Drop>(list: &mut Vec<T>, one: T) -> Outcome {
+    list.push(one)?;
+    Ok(())
+}
+
 /// What the lines of a case speak of.
 pub trait Subject: Sized + Drop {
     /// What a case begins with.
