@@ -2,6 +2,7 @@
 
 use crate::answer::Answer;
 use crate::reading::Words;
+use crate::running::Outcome;
 use crate::table::Told;
 use papergrid_config::{CompactConfig, SpannedConfig};
 use papergrid_layout::{
@@ -83,6 +84,13 @@ impl Shown for Option<Vec<Position>> {
             None => answer.word("none"),
         }
     }
+}
+
+/// Shows what is found, unless memory ran out.
+pub fn show_found<T: Shown>(found: Result<T, AllocError>, answer: &mut Answer) -> Outcome {
+    let value = found?;
+    value.show(answer);
+    Ok(())
 }
 
 /// Shows what is found, or why nothing is.
