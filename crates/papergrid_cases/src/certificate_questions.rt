@@ -7,12 +7,15 @@ use crate::running::Outcome;
 use crate::size_questions::show;
 use crate::table::Told;
 use crate::table_cases::numbers_to;
+use papergrid_config::SpannedConfig;
 use papergrid_layout::iterable::{
     check_height_witness, check_width_witness, height_witness, width_witness,
 };
 use papergrid_layout::least::{height_certificate, width_certificate};
+use papergrid_text::{IntoRecords, Records};
 use papergrid_values::Position;
-use std::alloc::AllocError;
+use std::alloc::{AllocError, Global};
+use std::convert::AsStr;
 
 /// Answers a question on certificates of either kind, what a checker says of sizes and cells, or
 /// another question.
@@ -22,21 +25,34 @@ pub fn ask_certificates(
     words: &mut Words<'_>,
     answer: &mut Answer,
 ) -> Outcome {
-    let Told {
-        alloc,
-        table,
-        config,
-        sizes: _,
-    } = told;
     match word {
-        "width_witness" => show(width_witness(alloc, table.lent(), config), answer),
-        "height_witness" => show(height_witness(alloc, table.lent(), config), answer),
-        "width_certificate" => show(width_certificate(alloc, table.lent(), config), answer),
-        "height_certificate" => show(height_certificate(alloc, table.lent(), config), answer),
-        "check_widths" | "check_heights" => return ask_checker(told, word, words, answer),
-        _ => return ask_hidden(told, word, words, answer),
+        "width_witness" | "height_witness" | "width_certificate" | "height_certificate" => {
+            show_cells(told.alloc, told.table.lent(), told.config, word, answer);
+            Ok(())
+        }
+        "check_widths" | "check_heights" => ask_checker(told, word, words, answer),
+        _ => ask_hidden(told, word, words, answer),
     }
-    Ok(())
+}
+
+/// Shows the cells that certify the sizes along a direction, of the kind that the word names.
+fn show_cells<R: Records + Drop>(
+    alloc: Global,
+    records: R,
+    config: &SpannedConfig,
+    word: &str,
+    answer: &mut Answer,
+)
+where
+    <<R as Records>::Iter as IntoRecords>::Cell: AsStr + Drop,
+    requires { R.is_lawful records }
+{
+    match word {
+        "width_witness" => show(width_witness(alloc, records, config), answer),
+        "height_witness" => show(height_witness(alloc, records, config), answer),
+        "width_certificate" => show(width_certificate(alloc, records, config), answer),
+        _ => show(height_certificate(alloc, records, config), answer),
+    }
 }
 
 /// Answers what a checker says of sizes, the word `by` and cells.

@@ -5,7 +5,7 @@ use crate::compact_cases::with_setting;
 use crate::config_questions;
 use crate::pair::Kind;
 use crate::reading::Words;
-use crate::running::Outcome;
+use crate::running::{Outcome, add_to};
 use crate::settings::setting;
 use papergrid_config::{CompactConfig, Setting, SpannedConfig};
 use std::alloc::{AllocError, Global};
@@ -26,6 +26,12 @@ impl Config {
     pub fn settled(&self) -> &SpannedConfig {
         &self.config
     }
+
+    /// Begins anew with the compact configuration.
+    fn become_compact(&mut self) -> Outcome {
+        self.config = SpannedConfig::from_compact(self.alloc, &self.compact)?;
+        Ok(())
+    }
 }
 
 impl Kind for Config {
@@ -43,17 +49,11 @@ impl Kind for Config {
             "compact" => {
                 let word = words.word();
                 self.compact = with_setting(self.compact, word, words);
+                Ok(())
             }
-            "from_compact" => {
-                self.config = SpannedConfig::from_compact(self.alloc, &self.compact)?;
-            }
-            _ => {
-                if let Some(setting) = setting(word, words) {
-                    self.settings.push(setting)?;
-                }
-            }
+            "from_compact" => self.become_compact(),
+            _ => add_setting(&mut self.settings, word, words),
         }
-        Ok(())
     }
 
     fn settle(&mut self, words: &mut Words<'_>) -> Outcome {
@@ -95,5 +95,13 @@ impl Kind for Config {
             compact: self.compact,
             settings: Vec::new(self.alloc),
         })
+    }
+}
+
+/// Adds the setting that a line tells to those that are applied next.
+fn add_setting(settings: &mut Vec<Setting>, word: &str, words: &mut Words<'_>) -> Outcome {
+    match setting(word, words) {
+        Some(setting) => add_to(settings, setting),
+        None => Ok(()),
     }
 }

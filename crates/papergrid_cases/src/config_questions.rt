@@ -4,7 +4,7 @@
 use crate::answer::Answer;
 use crate::reading::Words;
 use crate::running::Outcome;
-use crate::size_questions::Shown;
+use crate::size_questions::show_found;
 use papergrid_config::SpannedConfig;
 use papergrid_values::{Direction, Position};
 
@@ -16,14 +16,16 @@ pub fn ask(
     answer: &mut Answer,
 ) -> Outcome {
     match word {
-        "get_column_spans" => answer.spans(&config.get_column_spans()?, words),
-        "get_row_spans" => answer.spans(&config.get_row_spans()?, words),
-        "get_horizontal_lines" => answer.horizontal_lines(&config.get_horizontal_lines()?, words),
-        "get_vertical_lines" => answer.vertical_lines(&config.get_vertical_lines()?, words),
-        "padded_cells" => config.padded_cells()?.show(answer),
-        _ => ask_flags(config, word, words, answer),
+        "get_column_spans" => answer.spans(config.get_column_spans(), words),
+        "get_row_spans" => answer.spans(config.get_row_spans(), words),
+        "get_horizontal_lines" => answer.horizontal_lines(config.get_horizontal_lines(), words),
+        "get_vertical_lines" => answer.vertical_lines(config.get_vertical_lines(), words),
+        "padded_cells" => show_found(config.padded_cells(), answer),
+        _ => {
+            ask_flags(config, word, words, answer);
+            Ok(())
+        }
     }
-    Ok(())
 }
 
 fn ask_flags(config: &SpannedConfig, word: &str, words: &mut Words<'_>, answer: &mut Answer) {

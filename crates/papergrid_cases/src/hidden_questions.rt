@@ -4,7 +4,7 @@ use crate::answer::Answer;
 use crate::place_questions::ask_places;
 use crate::reading::Words;
 use crate::running::Outcome;
-use crate::size_questions::Shown;
+use crate::size_questions::show_found;
 use crate::table::Told;
 use papergrid_config::SpannedConfig;
 use papergrid_values::Position;
@@ -19,7 +19,7 @@ pub fn ask_hidden(
 ) -> Outcome {
     match word {
         "hidden" => show_hidden(told.config, words.number(), words.number(), answer),
-        "anchors" => told.config.anchors()?.show(answer),
+        "anchors" => return show_found(told.config.anchors(), answer),
         _ => ask_places(told, word, words, answer),
     }
     Ok(())

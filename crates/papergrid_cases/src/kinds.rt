@@ -6,7 +6,7 @@ use crate::pair::Kind;
 use crate::reading::Words;
 use crate::running::Outcome;
 use crate::sides::Side;
-use crate::size_questions::Shown;
+use crate::size_questions::show_found;
 use papergrid_maps::SpanTable;
 use papergrid_tables::{BorderTable, OffsetTable};
 use papergrid_values::Offset;
@@ -38,8 +38,10 @@ impl Kind for BorderTable<char> {
 
     fn ask(&self, word: &str, words: &mut Words<'_>, answer: &mut Answer) -> Outcome {
         match word {
-            "get_horizontal_lines" => answer.horizontal_lines(&self.get_horizontal_lines()?, words),
-            "get_vertical_lines" => answer.vertical_lines(&self.get_vertical_lines()?, words),
+            "get_horizontal_lines" => {
+                return answer.horizontal_lines(self.get_horizontal_lines(), words);
+            }
+            "get_vertical_lines" => return answer.vertical_lines(self.get_vertical_lines(), words),
             "get_horizontal_line" => {
                 answer.horizontal_line(self.get_horizontal_line(words.number()))
             }
@@ -71,14 +73,20 @@ fn ask_borders(table: &BorderTable<char>, word: &str, words: &mut Words<'_>, ans
             answer.mark(table.get_intersection(words.position(), words.pair()))
         }
         "is_empty" => answer.flag(table.is_empty()),
-        "has_vertical" => answer.flag(table.has_vertical(words.number(), words.number())),
-        "has_horizontal" => answer.flag(table.has_horizontal(words.number(), words.number())),
-        "is_vertical_set" => answer.flag(table.is_vertical_set(words.number(), words.number())),
-        "is_horizontal_set" => {
-            answer.flag(table.is_horizontal_set(words.number(), words.number()))
-        }
-        _ => words.lacks("a question"),
+        _ => ask_lines(table, word, words, answer),
     }
+}
+
+/// Answers a question on which parts of lines are set.
+fn ask_lines(table: &BorderTable<char>, word: &str, words: &mut Words<'_>, answer: &mut Answer) {
+    let (number, count) = (words.number(), words.number());
+    answer.flag(match word {
+        "has_vertical" => table.has_vertical(number, count),
+        "has_horizontal" => table.has_horizontal(number, count),
+        "is_vertical_set" => table.is_vertical_set(number, count),
+        "is_horizontal_set" => table.is_horizontal_set(number, count),
+        _ => return words.lacks("a question"),
+    });
 }
 
 impl Kind for OffsetTable<char> {
@@ -135,20 +143,12 @@ impl Kind for SpanTable {
 
     fn ask(&self, word: &str, words: &mut Words<'_>, answer: &mut Answer) -> Outcome {
         match word {
-            "columns" => answer.spans(&self.columns()?, words),
-            "rows" => answer.spans(&self.rows()?, words),
-            "anchors" => self.anchors()?.show(answer),
-            "has_columns" => answer.flag(self.has_columns()),
-            "has_rows" => answer.flag(self.has_rows()),
+            "columns" => return answer.spans(self.columns(), words),
+            "rows" => return answer.spans(self.rows(), words),
+            "anchors" => return show_found(self.anchors(), answer),
             "get_column" => answer.found_number(self.get_column(words.position())),
             "get_row" => answer.found_number(self.get_row(words.position())),
-            "covered_by_column" => answer.flag(self.covered_by_column(words.position())),
-            "covered_by_row" => answer.flag(self.covered_by_row(words.position())),
-            "covered_by_both" => answer.flag(self.covered_by_both(words.position())),
-            "is_visible" => answer.flag(self.is_visible(words.position())),
-            "end_within" => answer.flag(self.end_within(words.direction(), words.number())),
-            "are_visible" => answer.flag(are_visible(self, words)),
-            _ => words.lacks("a question"),
+            _ => ask_flags(self, word, words, answer),
         }
         Ok(())
     }
@@ -160,6 +160,21 @@ impl Kind for SpanTable {
     fn copied(&self) -> Result<SpanTable, AllocError> {
         self.clone()
     }
+}
+
+/// Answers a question whose answer is true or false.
+fn ask_flags(spans: &SpanTable, word: &str, words: &mut Words<'_>, answer: &mut Answer) {
+    answer.flag(match word {
+        "has_columns" => spans.has_columns(),
+        "has_rows" => spans.has_rows(),
+        "covered_by_column" => spans.covered_by_column(words.position()),
+        "covered_by_row" => spans.covered_by_row(words.position()),
+        "covered_by_both" => spans.covered_by_both(words.position()),
+        "is_visible" => spans.is_visible(words.position()),
+        "end_within" => spans.end_within(words.direction(), words.number()),
+        "are_visible" => are_visible(spans, words),
+        _ => return words.lacks("a question"),
+    });
 }
 
 /// Whether two positions are visible, of which the second stands below the first and right of it.

@@ -27,7 +27,7 @@ mod text_questions;
 use compact_cases::CompactCases;
 use config_cases::Config;
 use map_cases::Map;
-use pair::Pair;
+use pair::run_pair;
 use papergrid_maps::SpanTable;
 use papergrid_tables::{BorderTable, OffsetTable};
 use plain_cases::PlainCases;
@@ -66,14 +66,14 @@ fn is_file_right(rt: &HostRuntime, name: &str) -> bool {
 /// Runs the cases of a file by the module that its name asks for.
 fn report_of(rt: &HostRuntime, name: &str, text: &str) -> Report {
     match name {
-        "borders.txt" => run::<Pair<BorderTable<char>>>(rt, name, text),
+        "borders.txt" => run_pair::<BorderTable<char>>(rt, name, text),
         "compact.txt" => run::<CompactCases>(rt, name, text),
-        "config.txt" | "removals.txt" => run::<Pair<Config>>(rt, name, text),
+        "config.txt" | "removals.txt" => run_pair::<Config>(rt, name, text),
         "tables.txt" => run::<TableCases>(rt, name, text),
         "texts.txt" | "values.txt" | "widths.txt" => run::<PlainCases>(rt, name, text),
-        "maps.txt" => run::<Pair<Map>>(rt, name, text),
-        "offsets.txt" => run::<Pair<OffsetTable<char>>>(rt, name, text),
-        "spans.txt" => run::<Pair<SpanTable>>(rt, name, text),
+        "maps.txt" => run_pair::<Map>(rt, name, text),
+        "offsets.txt" => run_pair::<OffsetTable<char>>(rt, name, text),
+        "spans.txt" => run_pair::<SpanTable>(rt, name, text),
         _ => Report::of_no_case(),
     }
 }

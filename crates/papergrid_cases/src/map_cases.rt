@@ -3,8 +3,8 @@
 use crate::answer::Answer;
 use crate::pair::Kind;
 use crate::reading::Words;
-use crate::running::Outcome;
-use crate::size_questions::Shown;
+use crate::running::{Outcome, add_to};
+use crate::size_questions::show_found;
 use papergrid_maps::{EntityMap, MapCall};
 use std::alloc::{AllocError, Global};
 use std::mem;
@@ -35,8 +35,7 @@ impl Kind for Map {
                 return Ok(());
             }
         };
-        self.calls.push(call)?;
-        Ok(())
+        add_to(&mut self.calls, call)
     }
 
     fn settle(&mut self, _words: &mut Words<'_>) -> Outcome {
@@ -56,8 +55,8 @@ impl Kind for Map {
                 answer.flag(self.map.any_held(|value| *value == wanted));
             }
             "is_empty" => answer.flag(self.map.is_empty()),
-            "held_cells" => self.map.held_cells()?.show(answer),
-            "into_map" => return in_map(self.map.clone()?, words, answer),
+            "held_cells" => return show_found(self.map.held_cells(), answer),
+            "into_map" => return in_map(&self.map, words, answer),
             _ => words.lacks("a question"),
         }
         Ok(())
@@ -77,7 +76,8 @@ impl Kind for Map {
 }
 
 /// How many values the map holds, and that of the entity that the line names, if it names one.
-fn in_map(map: EntityMap<char>, words: &mut Words<'_>, answer: &mut Answer) -> Outcome {
+fn in_map(map: &EntityMap<char>, words: &mut Words<'_>, answer: &mut Answer) -> Outcome {
+    let map = map.clone()?;
     let all = map.into_map()?;
     answer.number(all.len());
     if !words.is_empty() {

@@ -2,7 +2,7 @@
 
 use crate::answer::Answer;
 use crate::reading::Words;
-use crate::running::{Outcome, Subject};
+use crate::running::{Outcome, Report, Subject, run};
 use std::alloc::{AllocError, Global};
 use std::mem;
 
@@ -34,6 +34,11 @@ pub trait Kind: Sized + Drop {
 pub struct Pair<T> {
     one: T,
     other: T,
+}
+
+/// Runs the cases of a text that speak of pairs.
+pub fn run_pair<T: Kind>(rt: &HostRuntime, file: &str, text: &str) -> Report {
+    run::<Pair<T>>(rt, file, text)
 }
 
 impl<T: Kind> Subject for Pair<T> {

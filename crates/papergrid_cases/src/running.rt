@@ -7,6 +7,12 @@ use std::alloc::{AllocError, Global};
 /// How what a line says ends: it is done, or an allocation failed.
 pub type Outcome = Result<(), AllocError>;
 
+/// Adds one to a list, unless memory runs out.
+pub fn add_to<T: Drop>(list: &mut Vec<T>, one: T) -> Outcome {
+    list.push(one)?;
+    Ok(())
+}
+
 /// What the lines of a case speak of.
 pub trait Subject: Sized + Drop {
     /// What a case begins with.
@@ -54,34 +60,43 @@ pub fn run<S: Subject>(rt: &HostRuntime, file: &str, text: &str) -> Report {
             report.cases = report.cases.saturating_add(1);
             subject = S::start(rt.alloc());
         } else if !line.is_empty() && !line.starts_with('#') {
-            let (said, wanted) = match line.split_once(" = ") {
-                Some((question, wanted)) => (question, Some(wanted)),
-                None => (line, None),
-            };
-            report.answers = report.answers.saturating_add(usize::from(wanted.is_some()));
-            let came = followed(rt.alloc(), &mut subject, said, wanted.is_some());
-            report.is_right = is_as_wanted(rt, file, index, line, wanted, came) && report.is_right;
+            run_line(rt, file, index, line, &mut subject, &mut report);
         }
     }
     report
 }
 
-/// Whether the answer is the one that a line wants, which is none where it is no question; else writes the answer. Lines
-/// are counted from 1.
-fn is_as_wanted(
-    rt: &impl Print,
+/// Does what a line says, and notes in the report whether the answer is the one that the line wants.
+fn run_line<S: Subject>(
+    rt: &HostRuntime,
     file: &str,
     index: usize,
     line: &str,
-    wanted: Option<&str>,
-    came: Answer,
-) -> bool {
-    let is_right = came.is(wanted.unwrap_or(""));
-    if !is_right {
-        let number = index.saturating_add(1);
-        let _ = println!(rt; "{file}:{number}: {line}: came {}", came.as_str());
+    subject: &mut S,
+    report: &mut Report,
+) {
+    let (said, wanted) = parts_of(line);
+    let came = followed(rt.alloc(), subject, said, wanted.is_some());
+    report.answers = report.answers.saturating_add(usize::from(wanted.is_some()));
+    // A line that is no question wants no answer.
+    if !came.is(wanted.unwrap_or("")) {
+        report.is_right = false;
+        complain(rt, file, index, line, came.as_str());
     }
-    is_right
+}
+
+/// What a line says, and the answer that it wants where it is a question.
+fn parts_of(line: &str) -> (&str, Option<&str>) {
+    match line.split_once(" = ") {
+        Some((question, wanted)) => (question, Some(wanted)),
+        None => (line, None),
+    }
+}
+
+/// Writes an answer that differs. Lines are counted from 1.
+fn complain(rt: &impl Print, file: &str, index: usize, line: &str, came: &str) {
+    let number = index.saturating_add(1);
+    let _ = println!(rt; "{file}:{number}: {line}: came {came}");
 }
 
 /// Does what a line says: the answer, and what the line lacks.

@@ -3,10 +3,12 @@
 use crate::answer::Answer;
 use crate::marks::Marked;
 use crate::reading::Words;
+use crate::running::Outcome;
 use papergrid_values::{
     ANSIBuf, AlignmentHorizontal, AlignmentVertical, Border, Borders, HorizontalLine, Indent,
     Offset, Position, Sides, VerticalLine,
 };
+use std::alloc::AllocError;
 use std::collections::HashMap;
 
 impl Answer {
@@ -151,33 +153,43 @@ impl Answer {
         });
     }
 
-    /// How many spans there are, and the one of the position that the line names, if it names one: so in the two below.
-    pub fn spans(&mut self, spans: &HashMap<Position, usize>, words: &mut Words<'_>) {
+    /// How many spans are found, and the one of the position that the line names, if it names one: so in the two below.
+    pub fn spans(
+        &mut self,
+        found: Result<HashMap<Position, usize>, AllocError>,
+        words: &mut Words<'_>,
+    ) -> Outcome {
+        let spans = found?;
         self.number(spans.len());
         if !words.is_empty() {
             self.found_number(spans.get(&words.position()).copied());
         }
+        Ok(())
     }
 
     pub fn horizontal_lines(
         &mut self,
-        lines: &HashMap<usize, HorizontalLine<char>>,
+        found: Result<HashMap<usize, HorizontalLine<char>>, AllocError>,
         words: &mut Words<'_>,
-    ) {
+    ) -> Outcome {
+        let lines = found?;
         self.number(lines.len());
         if !words.is_empty() {
             self.horizontal_line(lines.get(&words.number()));
         }
+        Ok(())
     }
 
     pub fn vertical_lines(
         &mut self,
-        lines: &HashMap<usize, VerticalLine<char>>,
+        found: Result<HashMap<usize, VerticalLine<char>>, AllocError>,
         words: &mut Words<'_>,
-    ) {
+    ) -> Outcome {
+        let lines = found?;
         self.number(lines.len());
         if !words.is_empty() {
             self.vertical_line(lines.get(&words.number()));
         }
+        Ok(())
     }
 }

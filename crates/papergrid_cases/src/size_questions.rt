@@ -2,16 +2,18 @@
 
 use crate::answer::Answer;
 use crate::reading::Words;
+use crate::running::Outcome;
 use crate::table::Told;
 use papergrid_config::{CompactConfig, SpannedConfig};
 use papergrid_layout::{
     CompactGridDimension, Estimate, IterGridDimension, LayoutError, LayoutResult,
-    LeastGridDimension, PeekableGridDimension,
+    LeastGridDimension, PeekableGridDimension, Sizing,
 };
 use papergrid_maps::Anchor;
-use papergrid_text::VecRecords;
-use papergrid_values::Position;
+use papergrid_text::{Cell, IntoRecords, Records, VecRecords};
+use papergrid_values::{Direction, Position};
 use std::alloc::{AllocError, Global};
+use std::convert::AsStr;
 
 /// Widths and heights.
 pub type Sizes = (Vec<usize>, Vec<usize>);
@@ -30,18 +32,25 @@ impl Shown for usize {
 /// The sizes, `-` where there are none; many alike as `1009 times 1`.
 impl Shown for Vec<usize> {
     fn show(&self, answer: &mut Answer) {
-        let Some(first) = self.first() else {
+        if self.is_empty() {
             return answer.word("-");
-        };
-        if 9 < self.len() && self.iter().all(|size| size == first) {
+        }
+        if let Some(size) = many_alike(self) {
             answer.number(self.len());
             answer.word("times");
-            return answer.number(*first);
+            return answer.number(size);
         }
         for size in self.as_slice() {
             answer.number(*size);
         }
     }
+}
+
+/// The size that all are, where there are ten or more.
+fn many_alike(sizes: &[usize]) -> Option<usize> {
+    let first = sizes.first()?;
+    let are_alike = 9 < sizes.len() && sizes.iter().all(|size| size == first);
+    are_alike.then_some(*first)
 }
 
 /// Widths, a bar and heights.
@@ -85,6 +94,13 @@ impl Shown for Option<Vec<Position>> {
     }
 }
 
+/// Shows what is found, unless memory ran out.
+pub fn show_found<T: Shown>(found: Result<T, AllocError>, answer: &mut Answer) -> Outcome {
+    let value = found?;
+    value.show(answer);
+    Ok(())
+}
+
 /// Shows what is found, or why nothing is.
 pub fn show<T: Shown>(found: LayoutResult<T>, answer: &mut Answer) {
     match found {
@@ -98,105 +114,131 @@ pub fn show<T: Shown>(found: LayoutResult<T>, answer: &mut Answer) {
     }
 }
 
-/// Answers a question on sizes: both by shares of measured texts, one alone of texts, or as its word says.
+/// Answers a question on sizes by shares or on the least ones, or another question on sizes.
 pub fn ask_sizes(told: Told<'_>, word: &str, words: &mut Words<'_>, answer: &mut Answer) {
-    let Told {
-        alloc,
-        table,
-        config,
-        sizes: _,
-    } = told;
     match word {
-        "sizes" => show(
-            PeekableGridDimension::dimension(alloc, table.measured(), config),
+        "widths" | "heights" | "least_widths" | "least_heights" => show(
+            along(told.alloc, told.table.lent(), told.config, word),
             answer,
         ),
-        "widths" => show(
-            IterGridDimension::width(alloc, table.lent(), config),
-            answer,
-        ),
-        "heights" => show(
-            IterGridDimension::height(alloc, table.lent(), config),
-            answer,
-        ),
-        "totals" => {
-            show(
-                IterGridDimension::width_total(alloc, table.lent(), config),
-                answer,
-            );
-            show(
-                IterGridDimension::height_total(alloc, table.lent(), config),
-                answer,
-            );
-        }
+        "totals" => show_totals(told, Sizing::ByShares, answer),
+        "least_totals" => show_totals(told, Sizing::Least, answer),
         "kept_sizes" => show(kept(told), answer),
-        "own_sizes" => {
-            show(
-                PeekableGridDimension::dimension(alloc, table.texts(), config),
-                answer,
-            );
-        }
-        "compact_sizes" => show(
-            CompactGridDimension::dimension(alloc, table.texts(), &CompactConfig::new()),
-            answer,
-        ),
-        _ => ask_least(told, word, words, answer),
+        "least_sizes" => show(least(told), answer),
+        _ => ask_cells(told, word, words, answer),
     }
 }
 
-/// Answers a question on the sizes along one direction of measured texts, or by the default compact configuration.
-fn ask_alone(told: Told<'_>, word: &str, words: &mut Words<'_>, answer: &mut Answer) {
-    let (alloc, config, compact) = (told.alloc, told.config, CompactConfig::new());
+/// The sizes along a direction that the word names, by shares or the least ones.
+fn along<R: Records + Drop>(
+    alloc: Global,
+    records: R,
+    config: &SpannedConfig,
+    word: &str,
+) -> LayoutResult<Vec<usize>>
+where
+    <<R as Records>::Iter as IntoRecords>::Cell: AsStr + Drop,
+    requires { R.is_lawful records }
+{
     match word {
-        "measured_widths" => show(
-            PeekableGridDimension::width(alloc, told.table.measured(), config),
-            answer,
-        ),
-        "measured_heights" => show(
-            PeekableGridDimension::height(alloc, told.table.measured(), config),
-            answer,
-        ),
-        "compact_widths" => show(
-            CompactGridDimension::width(alloc, told.table.texts(), &compact),
-            answer,
-        ),
-        "compact_heights" => show(
-            CompactGridDimension::height(alloc, told.table.texts(), &compact),
-            answer,
-        ),
+        "widths" => IterGridDimension::width(alloc, records, config),
+        "heights" => IterGridDimension::height(alloc, records, config),
+        "least_widths" => LeastGridDimension::width(alloc, records, config),
+        _ => LeastGridDimension::height(alloc, records, config),
+    }
+}
+
+/// Shows the width and the height of the table.
+fn show_totals(told: Told<'_>, sizing: Sizing, answer: &mut Answer) {
+    let (alloc, table, config) = (told.alloc, told.table, told.config);
+    let width = total(alloc, table.lent(), config, sizing, Direction::Columns);
+    show(width, answer);
+    let height = total(alloc, table.lent(), config, sizing, Direction::Rows);
+    show(height, answer);
+}
+
+/// The total along a direction: the width or the height.
+fn total<R: Records + Drop>(
+    alloc: Global,
+    records: R,
+    config: &SpannedConfig,
+    sizing: Sizing,
+    direction: Direction,
+) -> LayoutResult<usize>
+where
+    <<R as Records>::Iter as IntoRecords>::Cell: AsStr + Drop,
+    requires { R.is_lawful records }
+{
+    match (sizing, direction) {
+        (Sizing::ByShares, Direction::Columns) => {
+            IterGridDimension::width_total(alloc, records, config)
+        }
+        (Sizing::ByShares, Direction::Rows) => {
+            IterGridDimension::height_total(alloc, records, config)
+        }
+        (Sizing::Least, Direction::Columns) => {
+            LeastGridDimension::width_total(alloc, records, config)
+        }
+        (Sizing::Least, Direction::Rows) => {
+            LeastGridDimension::height_total(alloc, records, config)
+        }
+    }
+}
+
+/// Answers a question on the sizes of measured texts, of texts as cells, or by a compact configuration.
+fn ask_cells(told: Told<'_>, word: &str, words: &mut Words<'_>, answer: &mut Answer) {
+    let (alloc, table, config) = (told.alloc, told.table, told.config);
+    match word {
+        "sizes" | "measured_widths" | "measured_heights" => {
+            show_cell_sizes(alloc, table.measured(), config, word, answer);
+        }
+        "own_sizes" => show_cell_sizes(alloc, table.texts(), config, word, answer),
+        "compact_sizes" | "compact_widths" | "compact_heights" => {
+            show_compact_sizes(alloc, table.texts(), word, answer);
+        }
         _ => words.lacks("a question"),
     }
 }
 
-/// Answers a question on the least sizes.
-fn ask_least(told: Told<'_>, word: &str, words: &mut Words<'_>, answer: &mut Answer) {
-    let Told {
-        alloc,
-        table,
-        config,
-        sizes: _,
-    } = told;
+/// Shows the sizes of cells along a direction, or both, as the word says.
+fn show_cell_sizes<R: Records + Drop>(
+    alloc: Global,
+    records: R,
+    config: &SpannedConfig,
+    word: &str,
+    answer: &mut Answer,
+)
+where
+    <<R as Records>::Iter as IntoRecords>::Cell: Cell + Drop,
+    requires { R.is_lawful records }
+{
     match word {
-        "least_sizes" => show(least(told), answer),
-        "least_widths" => show(
-            LeastGridDimension::width(alloc, table.lent(), config),
+        "measured_widths" => show(PeekableGridDimension::width(alloc, records, config), answer),
+        "measured_heights" => show(
+            PeekableGridDimension::height(alloc, records, config),
             answer,
         ),
-        "least_heights" => show(
-            LeastGridDimension::height(alloc, table.lent(), config),
+        _ => show(
+            PeekableGridDimension::dimension(alloc, records, config),
             answer,
         ),
-        "least_totals" => {
-            show(
-                LeastGridDimension::width_total(alloc, table.lent(), config),
-                answer,
-            );
-            show(
-                LeastGridDimension::height_total(alloc, table.lent(), config),
-                answer,
-            );
-        }
-        _ => ask_alone(told, word, words, answer),
+    }
+}
+
+/// Shows the sizes by the default compact configuration along a direction, or both, as the word says.
+fn show_compact_sizes<R: Records + Drop>(alloc: Global, records: R, word: &str, answer: &mut Answer)
+where
+    <<R as Records>::Iter as IntoRecords>::Cell: AsStr + Drop,
+    requires { R.is_lawful records }
+{
+    let config = &CompactConfig::new();
+    match word {
+        "compact_widths" => show(CompactGridDimension::width(alloc, records, config), answer),
+        "compact_heights" => show(CompactGridDimension::height(alloc, records, config), answer),
+        _ => show(
+            CompactGridDimension::dimension(alloc, records, config),
+            answer,
+        ),
     }
 }
 

@@ -5,7 +5,7 @@ use crate::certificate_questions::ask_certificates;
 use crate::config_cases::Config;
 use crate::pair::Kind;
 use crate::reading::Words;
-use crate::running::{Outcome, Subject};
+use crate::running::{Outcome, Subject, add_to};
 use crate::size_questions::Sizes;
 use crate::table::{Table, Told};
 use std::alloc::{AllocError, Global};
@@ -85,15 +85,28 @@ fn add_times(rows: &mut Vec<Vec<String>>, words: &mut Words<'_>) -> Outcome {
 /// Adds a row, or a cell to the last one.
 fn add(rows: &mut Vec<Vec<String>>, word: &str, words: &mut Words<'_>) -> Outcome {
     match word {
-        "row" => rows.push(Vec::new(words.alloc()))?,
-        "|" => rows.push(row_of(words)?)?,
-        "cell" => match rows.last_mut() {
-            Some(row) => row.push(words.spelled())?,
-            None => words.lacks("a row before it"),
-        },
-        _ => words.lacks("a row or a cell"),
+        "row" => add_to(rows, Vec::new(words.alloc())),
+        "|" => {
+            let row = row_of(words)?;
+            add_to(rows, row)
+        }
+        "cell" => add_cell(rows, words),
+        _ => {
+            words.lacks("a row or a cell");
+            Ok(())
+        }
     }
-    Ok(())
+}
+
+/// Adds what is left as a cell of the last row.
+fn add_cell(rows: &mut [Vec<String>], words: &mut Words<'_>) -> Outcome {
+    match rows.last_mut() {
+        Some(row) => add_to(row, words.spelled()),
+        None => {
+            words.lacks("a row before it");
+            Ok(())
+        }
+    }
 }
 
 /// The cells between the bars that are left.
@@ -101,11 +114,17 @@ fn row_of(words: &mut Words<'_>) -> Result<Vec<String>, AllocError> {
     let cells = words.rest();
     let mut row = Vec::new(words.alloc());
     for cell in cells.strip_suffix('|').unwrap_or(cells).split('|') {
-        let mut text = Words::new(words.alloc(), cell);
-        row.push(text.spelled())?;
-        words.takes_lack(&text);
+        row.push(cell_of(cell, words))?;
     }
     Ok(row)
+}
+
+/// The text of a cell; what it lacks, the line lacks.
+fn cell_of(cell: &str, words: &mut Words<'_>) -> String {
+    let mut text = Words::new(words.alloc(), cell);
+    let spelled = text.spelled();
+    words.takes_lack(&text);
+    spelled
 }
 
 /// Takes widths, a bar and heights.
@@ -118,15 +137,23 @@ fn tell_sizes(sizes: &mut Option<Sizes>, words: &mut Words<'_>) -> Outcome {
 pub fn numbers_to(words: &mut Words<'_>, end: &str) -> Result<Vec<usize>, AllocError> {
     let mut numbers = Vec::new(words.alloc());
     for _ in 0..usize::MAX {
-        let word = words.word();
-        if word == end {
-            return Ok(numbers);
+        match number_before(words, end) {
+            Some(number) => numbers.push(number)?,
+            None => break,
         }
-        if word.is_empty() {
-            words.lacks("one more word");
-            break;
-        }
-        numbers.push(words.number_of(word))?;
     }
     Ok(numbers)
+}
+
+/// The number that is next, if it stands before this word.
+fn number_before(words: &mut Words<'_>, end: &str) -> Option<usize> {
+    let word = words.word();
+    if word == end {
+        return None;
+    }
+    if word.is_empty() {
+        words.lacks("one more word");
+        return None;
+    }
+    Some(words.number_of(word))
 }
