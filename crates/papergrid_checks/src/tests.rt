@@ -61,6 +61,23 @@ fn measured_row(
     Ok(row)
 }
 
+/// These rows of texts, held.
+fn held_rows(alloc: Global, texts: &[&[&str]]) -> Result<Vec<Vec<String>>, AllocError> {
+    let mut rows = Vec::new(alloc);
+    for row in texts {
+        rows.push(held_row(alloc, row)?)?;
+    }
+    Ok(rows)
+}
+
+fn held_row(alloc: Global, texts: &[&str]) -> Result<Vec<String>, AllocError> {
+    let mut row = Vec::new(alloc);
+    for text in texts {
+        row.push(String::from_str(alloc, *text)?)?;
+    }
+    Ok(row)
+}
+
 /// Two rows of three texts.
 fn rows(alloc: Global) -> Result<Vec<Vec<&'static str>>, AllocError> {
     rows_of(alloc, &[&["one", "two", "three"], &["four", "five", "six"]])
@@ -115,12 +132,12 @@ fn has_certificate(alloc: Global, config: &SpannedConfig) -> bool {
         )
 }
 
-/// Whether the table has its sizes, its total and its certificate.
+/// Whether the table has its sizes, by each type of records, its total and its certificate.
 fn is_as_told(alloc: Global) -> bool {
     let Ok(config) = one_by_one(alloc) else {
         return false;
     };
-    let sized = has_sizes(alloc, &config);
+    let sized = has_sizes(alloc, &config) && flat_has_sizes(alloc, &config);
     let total = has_total(alloc, &config);
     let certified = has_certificate(alloc, &config);
     drop(config);
@@ -133,33 +150,18 @@ fn is_laid_out(alloc: Global) -> Result<bool, LayoutError> {
     Ok(are_right(Ok(dimension.get_values())))
 }
 
-/// The texts of a table one after the other.
-fn flat(alloc: Global) -> Result<Vec<String>, AllocError> {
-    let mut texts = Vec::new(alloc);
-    for text in ["one", "two", "three", "four", "five", "six"] {
-        texts.push(String::from_str(alloc, text)?)?;
-    }
-    Ok(texts)
-}
-
-/// Whether records of one's own have the same sizes.
-fn flat_has_sizes(alloc: Global) -> bool {
-    let Ok(texts) = flat(alloc) else {
+/// Whether records of one's own, with the same texts one after the other, have the same sizes.
+fn flat_has_sizes(alloc: Global, config: &SpannedConfig) -> bool {
+    let Ok(texts) = held_row(alloc, &["one", "two", "three", "four", "five", "six"]) else {
         return false;
     };
     let flat = Flat { texts, columns: 3 };
-    let Ok(config) = one_by_one(alloc) else {
-        return false;
-    };
-    let found = of_flat(alloc, &flat, &config);
-    drop(config);
-    are_right(found)
+    are_right(of_flat(alloc, &flat, config))
 }
 
 #[test]
 fn callers(rt: HostRuntime) {
     assert!(rt; is_as_told(rt.alloc()));
     assert!(rt; is_laid_out(rt.alloc()) == Ok(true));
-    assert!(rt; flat_has_sizes(rt.alloc()));
     assert!(rt; measures("a 👍\nbc") == (2, 4));
 }

@@ -57,11 +57,7 @@ pub fn widths_of(
         Sizing::ByShares => layout(alloc, settings, records)?.get_values(),
         Sizing::Least => layout_least(alloc, settings, records)?.get_values(),
     };
-    Ok(if heights.as_slice() == [1, 1].as_slice() {
-        Some(widths)
-    } else {
-        None
-    })
+    Ok((heights.as_slice() == [1, 1].as_slice()).then_some(widths))
 }
 
 /// Whether these are the widths.

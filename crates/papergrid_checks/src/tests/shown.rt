@@ -6,7 +6,7 @@ use crate::dimensions::{of_compact, of_crossing, of_measured};
 use crate::drawn::two_rows;
 use crate::entities::marks;
 use crate::picture::second_cell;
-use crate::tests::{are_sizes, measured_rows, rows_of};
+use crate::tests::{are_sizes, held_rows, measured_rows, rows_of};
 use papergrid::ansi::ANSIBuf;
 use papergrid::colors::Colors;
 use papergrid::config::spanned::SpannedConfig;
@@ -70,8 +70,8 @@ fn are_marked(alloc: Global) -> bool {
 
 /// Texts without padding are as wide as the widest of a column.
 fn is_tight(alloc: Global) -> Result<bool, AllocError> {
-    let row = vec![in alloc; String::from_str(alloc, "four")?]?;
-    Ok(of_compact(alloc, &[row], &tight()) == Ok(4))
+    let rows = held_rows(alloc, &[&["four"]])?;
+    Ok(of_compact(alloc, &rows, &tight()) == Ok(4))
 }
 
 /// Two texts of ten columns each, over the first two columns and over the last two.

@@ -91,14 +91,16 @@ fn is_copied(alloc: Global, lent: ANSIStr<'_>, color: &ANSIBuf) -> bool {
     ANSIBuf::copy_of(alloc, lent).is_ok_and(|copy| copy == *color)
 }
 
-fn is_owned(alloc: Global) -> bool {
+fn is_as_lent(alloc: Global, color: &ANSIBuf) -> bool {
     let lent = ANSIStr::new("<", ">");
-    ANSIBuf::new(alloc, "<", ">").is_ok_and(|color| {
-        (color.get_prefix(), color.get_suffix()) == ("<", ">")
-            && color.as_ref() == lent
-            && is_copied(alloc, lent, &color)
-            && !color.is_empty()
-    })
+    (color.get_prefix(), color.get_suffix()) == ("<", ">")
+        && color.as_ref() == lent
+        && is_copied(alloc, lent, color)
+        && !color.is_empty()
+}
+
+fn is_owned(alloc: Global) -> bool {
+    ANSIBuf::new(alloc, "<", ">").is_ok_and(|color| is_as_lent(alloc, &color))
 }
 
 fn is_empty_copied(alloc: Global) -> bool {

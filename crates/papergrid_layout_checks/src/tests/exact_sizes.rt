@@ -10,7 +10,8 @@ use papergrid_text::VecRecords;
 use std::alloc::{AllocError, Global};
 use std::test::Fail;
 
-fn row_of(alloc: Global, texts: &[&str]) -> Result<Vec<String>, AllocError> {
+/// A row that owns its texts.
+pub fn row_of(alloc: Global, texts: &[&str]) -> Result<Vec<String>, AllocError> {
     let mut row = Vec::new(alloc);
     for text in texts {
         row.push(String::from_str(alloc, *text)?)?;

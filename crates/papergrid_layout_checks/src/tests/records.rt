@@ -1,5 +1,6 @@
 //! Records: their counts, and the greatest widths that a consumer finds in each type that they come in.
 
+use crate::tests::exact_sizes::{row_of, rows_of};
 use crate::tests::peeks::{of_strings, peek};
 use crate::tests::record_callers::{
     Widths, of_chunks, of_exact_chunks, of_held, of_lent, of_lent_records, of_nested, of_row_iter,
@@ -9,18 +10,9 @@ use papergrid_text::{ExactRecords, IterRecords, Records, Text, VecRecords};
 use papergrid_values::Position;
 use std::alloc::{AllocError, Global};
 
-/// The texts, each as one of its own.
-fn owned(alloc: Global, texts: &[&str]) -> Result<Vec<String>, AllocError> {
-    let mut owned = Vec::new(alloc);
-    for text in texts {
-        owned.push(String::from_str(alloc, *text)?)?;
-    }
-    Ok(owned)
-}
-
 /// The rows `a`, `bcd` and `xyz`, of two cells and of one.
 fn owned_rows(alloc: Global) -> Result<Vec<Vec<String>>, AllocError> {
-    Ok(vec![in alloc; owned(alloc, &["a", "bcd"])?, owned(alloc, &["xyz"])?]?)
+    rows_of(alloc, &[&["a", "bcd"], &["xyz"]])
 }
 
 /// Whether these are the widths.
@@ -74,7 +66,7 @@ fn are_of_held(alloc: Global) -> Result<bool, AllocError> {
 }
 
 fn are_of_chunks(alloc: Global) -> Result<bool, AllocError> {
-    let texts = owned(alloc, &["a", "bcd", "xyz", "", "efghi"])?;
+    let texts = row_of(alloc, &["a", "bcd", "xyz", "", "efghi"])?;
     Ok(
         are(of_chunks(alloc, texts.as_slice(), 2), &[5, 3])
             && are(of_exact_chunks(alloc, texts.as_slice(), 2), &[3, 3]),

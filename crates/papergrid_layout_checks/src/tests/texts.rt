@@ -117,15 +117,13 @@ fn is_new_exact(alloc: Global) -> Result<bool, AllocError> {
     Ok(is_alike_exact(alloc, &first)? & is_more_than_none(alloc, &first)?)
 }
 
-fn are_lines_by_width(alloc: Global) -> Result<bool, AllocError> {
-    let owned = owned_line(alloc)?;
+fn are_lines_by_width(alloc: Global) -> bool {
     let lent = StrWithWidth::new(CowStr::Borrowed("bc"), 2);
-    let copy = lent.clone()?;
-    Ok(lent == owned && is_narrow(&copy))
+    owned_line(alloc).is_ok_and(|owned| lent == owned) && lent.clone().is_ok_and(is_narrow)
 }
 
-fn is_narrow(line: &StrWithWidth<'_>) -> bool {
-    *line < StrWithWidth::new(CowStr::Borrowed("bc"), 3)
+fn is_narrow(line: StrWithWidth<'_>) -> bool {
+    line < StrWithWidth::new(CowStr::Borrowed("bc"), 3)
 }
 
 #[test]
@@ -134,5 +132,5 @@ fn measured_texts(rt: HostRuntime) {
     assert!(rt; is_moved_and_cloned(rt.alloc()) == Ok(true));
     assert!(rt; is_exact(rt.alloc()) == Ok(true));
     assert!(rt; is_new_exact(rt.alloc()) == Ok(true));
-    assert!(rt; are_lines_by_width(rt.alloc()) == Ok(true));
+    assert!(rt; are_lines_by_width(rt.alloc()));
 }

@@ -1,4 +1,4 @@
-use Rattle.std.proofs.Common.{ap, ap₂, sym, subst, ◌∙◌, ◌<◌}
+use Rattle.std.proofs.Common.{ap, ap₂, refl, sym, subst, ◌∙◌, ◌<◌}
 use Rattle.std.proofs.lemmas.Result.{IfOk-weaker}
 use Rattle.std.specs.Prelude.{string_bytes}
 use Rattle.std.specs.Slice.Iter.{chunks_rest, chunks_size}
@@ -9,6 +9,6 @@ use Rattle.papergrid_layout_checks.proofs.tests.record_callers.of_chunks.Goals a
 
 pub returns : goal.returns
 returns c =
-    let is = c.iterated.ensures.rows in
+    let is = c.new.ensures in
     let size = ap (λ s. chunks_size s) is ∙ c.chunks.ensures.size in
-    IfOk-weaker c.widest.result _ _ (λ w t. from_lists (λ cell. cell.now) (λ cell. text_width (string_bytes cell)) t.0 _ _ _ w.items (c.chunks_tell_rows.ensures.told _ t.0 (subst (λ n. 0 < n) (sym size) c.requires) t.1 ∙ ap₂ cut_rows size (ap (λ s. chunks_rest s) is ∙ c.chunks.ensures.rest)) c.iterated.ensures.columns t.2) c.widest.ensures
+    IfOk-weaker c.of_rows.result _ _ (λ w t. from_lists (λ cell. cell.now) (λ cell. text_width (string_bytes cell)) t.0 _ _ _ w.items (c.chunks_tell_rows.ensures.told _ t.0 (subst (λ n. 0 < n) (sym size) c.requires) t.1 ∙ ap₂ cut_rows size (ap (λ s. chunks_rest s) is ∙ c.chunks.ensures.rest)) refl t.2) c.of_rows.ensures

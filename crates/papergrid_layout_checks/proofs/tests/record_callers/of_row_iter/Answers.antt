@@ -1,4 +1,4 @@
-use Rattle.std.proofs.Common.{ap, ◌∙◌}
+use Rattle.std.proofs.Common.{ap, refl, ◌∙◌}
 use Rattle.std.proofs.lemmas.Result.{IfOk-weaker}
 use Rattle.std.specs.Prelude.{string_bytes}
 use Rattle.std.specs.Slice.Iter.{iter_rest}
@@ -8,5 +8,5 @@ use Rattle.papergrid_layout_checks.proofs.tests.record_callers.of_row_iter.Goals
 
 pub returns : goal.returns
 returns c =
-    let rest = ap (λ s. iter_rest s) c.iterated.ensures.rows ∙ c.iter.ensures.rest in
-    IfOk-weaker c.widest.result _ _ (λ w t. from_told (λ cell. cell.now) (λ cell. text_width (string_bytes cell)) (λ row. row.items) t.0 _ _ _ _ w.items (c.vectors_tell_rows.ensures.told _ t.0 t.1) rest c.iterated.ensures.columns t.2) c.widest.ensures
+    let rest = ap (λ s. iter_rest s) c.new.ensures ∙ c.iter.ensures.rest in
+    IfOk-weaker c.of_rows.result _ _ (λ w t. from_told (λ cell. cell.now) (λ cell. text_width (string_bytes cell)) (λ row. row.items) t.0 _ _ _ _ w.items (c.vectors_tell_rows.ensures.told _ t.0 t.1) rest refl t.2) c.of_rows.ensures
