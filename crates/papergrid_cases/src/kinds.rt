@@ -79,12 +79,11 @@ fn ask_borders(table: &BorderTable<char>, word: &str, words: &mut Words<'_>, ans
 
 /// Answers a question on which parts of lines are set.
 fn ask_lines(table: &BorderTable<char>, word: &str, words: &mut Words<'_>, answer: &mut Answer) {
-    let (number, count) = (words.number(), words.number());
     answer.flag(match word {
-        "has_vertical" => table.has_vertical(number, count),
-        "has_horizontal" => table.has_horizontal(number, count),
-        "is_vertical_set" => table.is_vertical_set(number, count),
-        "is_horizontal_set" => table.is_horizontal_set(number, count),
+        "has_vertical" => table.has_vertical(words.number(), words.number()),
+        "has_horizontal" => table.has_horizontal(words.number(), words.number()),
+        "is_vertical_set" => table.is_vertical_set(words.number(), words.number()),
+        "is_horizontal_set" => table.is_horizontal_set(words.number(), words.number()),
         _ => return words.lacks("a question"),
     });
 }
