@@ -101,7 +101,7 @@ fn one_setting<'v>(alloc: Global, value: &'v Value) -> Result<Setting, Fault<'v>
         value: Some(value),
         place: Place::of("setting"),
     };
-    in_range(alloc, 0, &spot)
+    in_range(setting(alloc, 0, &spot)?, &spot)
 }
 
 /// What a JSON value tells but its rows, and the number of columns, if it tells one.
@@ -136,19 +136,19 @@ fn settings<'v>(alloc: Global, spot: &Spot<'v>) -> Result<Vec<Setting>, Fault<'v
 {
     let mut settings = Vec::new(alloc);
     for index in 0..count(spot, "a list of settings")? {
-        settings.push(in_range(alloc, index, &spot.at(index))?)?;
+        let at = spot.at(index);
+        settings.push(in_range(setting(alloc, index, &at)?, &at)?)?;
     }
     Ok(settings)
 }
 
-/// The setting that stands at a place, with this number among them, if it is in range.
-fn in_range<'v>(alloc: Global, index: usize, spot: &Spot<'v>) -> Result<Setting, Fault<'v>>
-    ensures { IfOk result (λ setting. is_in_range setting ≡ true) }
+/// The setting that stands at a place, if it is in range.
+fn in_range<'v>(setting: Setting, at: &Spot<'v>) -> Result<Setting, Fault<'v>>
+    ensures { IfOk result (λ told. (told ≡ setting) × (is_in_range setting ≡ true)) }
 {
-    let setting = setting(alloc, index, spot)?;
     if !setting.is_in_range() {
         drop(setting);
-        return Err(spot.unexpected("of a row and a column below the greatest number"));
+        return Err(at.unexpected("of a row and a column below the greatest number"));
     }
     Ok(setting)
 }

@@ -1,4 +1,4 @@
-use Rattle.std.proofs.Common.{List, subst, sym, true, ◌≡◌}
+use Rattle.std.proofs.Common.{List, ap, subst, sym, true, ◌≡◌, ◌∙◌}
 use Rattle.std.proofs.lemmas.List.Elements.{All-push}
 use Rattle.papergrid_config.specs.Applied.{is_in_range}
 use Rattle.papergrid_config.specs.declared.setting.Setting.{Setting}
@@ -9,4 +9,4 @@ pub loop-index-preserved : goal.loop-index-preserved
 loop-index-preserved c =
     let in_range = λ (setting : Setting). is_in_range setting ≡ true in
     subst AreInRange (sym {A = List Setting} c.in_ok-push.ensures.items)
-    (All-push in_range c.loop-index.settings.items _ c.loop-index.invariant c.in_ok-in_range.ensures)
+    (All-push in_range c.loop-index.settings.items _ c.loop-index.invariant (ap is_in_range c.in_ok-in_range.ensures.0 ∙ c.in_ok-in_range.ensures.1))
