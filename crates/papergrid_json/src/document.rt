@@ -1,6 +1,6 @@
 //! Documents, read.
 
-ghost use Rattle.std.specs.Prelude.{◌≡◌, IfOk, true};
+ghost use Rattle.std.specs.Prelude.{◌≡◌, ◌++◌, ◌∷◌, [], IfOk, OnOk, true};
 ghost use Rattle.papergrid_config.specs.Applied.{is_in_range};
 ghost use Rattle.papergrid_json.specs.Documents.{AreInRange};
 
@@ -8,10 +8,11 @@ use crate::error::{DocumentError, Fault, told};
 use crate::place::Place;
 use crate::setting::setting;
 use crate::spot::Spot;
+use crate::values::color_of;
 use papergrid_config::Setting;
 use papergrid_values::{ANSIBuf, Position};
 use serde_json::Value;
-use std::alloc::Global;
+use std::alloc::{AllocError, Global};
 use std::collections::BTreeMap;
 
 /// The sizes of a table that are one's own.
@@ -101,7 +102,14 @@ fn one_setting<'v>(alloc: Global, value: &'v Value) -> Result<Setting, Fault<'v>
         value: Some(value),
         place: Place::of("setting"),
     };
-    in_range(setting(alloc, 0, &spot)?, &spot)
+    setting_at(alloc, 0, &spot)
+}
+
+/// The setting that stands at a place, with this number among them, if it is in range.
+fn setting_at<'v>(alloc: Global, index: usize, at: &Spot<'v>) -> Result<Setting, Fault<'v>>
+    ensures { IfOk result (λ setting. is_in_range setting ≡ true) }
+{
+    in_range(setting(alloc, index, at)?, at)
 }
 
 /// What a JSON value tells but its rows, and the number of columns, if it tells one.
@@ -135,11 +143,31 @@ fn settings<'v>(alloc: Global, spot: &Spot<'v>) -> Result<Vec<Setting>, Fault<'v
     ensures { IfOk result (λ settings. AreInRange settings.items) }
 {
     let mut settings = Vec::new(alloc);
-    for index in 0..count(spot, "a list of settings")? {
-        let at = spot.at(index);
-        settings.push(in_range(setting(alloc, index, &at)?, &at)?)?;
-    }
+    add_settings(alloc, spot, &mut settings)?;
     Ok(settings)
+}
+
+/// Adds the settings that stand at a place.
+fn add_settings<'v>(
+    alloc: Global,
+    spot: &Spot<'v>,
+    settings: &mut Vec<Setting>,
+) -> Result<(), Fault<'v>>
+    requires { AreInRange settings.old.items }
+    ensures { OnOk result (AreInRange settings.new.items) }
+{
+    for index in 0..count(spot, "a list of settings")? {
+        push_setting(settings, setting_at(alloc, index, &spot.at(index))?)?;
+    }
+    Ok(())
+}
+
+/// Adds a setting, unless memory runs out.
+fn push_setting(settings: &mut Vec<Setting>, setting: Setting) -> Result<(), AllocError>
+    ensures { OnOk result (settings.new.items ≡ settings.old.items ++ setting ∷ []) }
+{
+    settings.push(setting)?;
+    Ok(())
 }
 
 /// The setting that stands at a place, if it is in range.
@@ -184,14 +212,10 @@ fn colors<'v>(alloc: Global, spot: &Spot<'v>) -> Result<BTreeMap<Position, ANSIB
 
 /// The colour of a text that stands at a place, and its position.
 fn color<'v>(alloc: Global, spot: &Spot<'v>) -> Result<(Position, ANSIBuf), Fault<'v>> {
-    let (prefix, suffix) = (spot.at(2).text(), spot.at(3).text());
-    match (count(spot, COLOR)?, prefix, suffix) {
-        (4, Some(prefix), Some(suffix)) => {
-            let position = Position::new(spot.at(0).number()?, spot.at(1).number()?);
-            Ok((position, ANSIBuf::new(alloc, prefix, suffix)?))
-        }
-        _ => Err(spot.unexpected(COLOR)),
-    }
+    spot.expect_items(4, COLOR)?;
+    let color = color_of(alloc, spot, (spot.at(2).text(), spot.at(3).text()), COLOR)?;
+    let position = Position::new(spot.at(0).number()?, spot.at(1).number()?);
+    Ok((position, color))
 }
 
 const COLOR: &str = "[row, column, text before, text after]";

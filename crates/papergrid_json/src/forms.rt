@@ -250,6 +250,11 @@ pub const SETTINGS: [Form; 41] = [
 ];
 
 /// The setting of this name.
-pub fn form_named(name: &str) -> Option<Form> {
-    SETTINGS.iter().find(|form| form.0 == name).copied()
+pub fn form_named(name: &str) -> Option<&'static Form> {
+    for form in &SETTINGS {
+        if form.0 == name {
+            return Some(form);
+        }
+    }
+    None
 }

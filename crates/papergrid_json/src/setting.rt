@@ -19,8 +19,8 @@ pub fn setting<'v>(alloc: Global, index: usize, spot: &Spot<'v>) -> Result<Setti
     }
     match form_named(name) {
         None => Err(Fault::UnknownSetting(index, name)),
-        Some((_, _, values, spelled)) if values != count => Err(spot.unexpected(spelled)),
-        Some((_, scope, _, _)) => told(alloc, name, scope, spot),
+        Some((_, _, values, spelled)) if *values != count => Err(spot.unexpected(*spelled)),
+        Some((_, scope, _, _)) => told(alloc, name, *scope, spot),
     }
 }
 

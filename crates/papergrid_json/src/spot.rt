@@ -115,18 +115,18 @@ impl<'v> Spot<'v> {
         }
     }
 
-    /// The two items of the list that stands here.
-    pub fn pair(&self, wanted: &'static str) -> Result<(Spot<'v>, Spot<'v>), Fault<'v>> {
+    /// That a list of so many items stands here.
+    pub fn expect_items(&self, count: usize, wanted: &'static str) -> Result<(), Fault<'v>> {
         match self.list() {
-            Some(items) if items.len() == 2 => Ok((self.at(0), self.at(1))),
+            Some(items) if items.len() == count => Ok(()),
             _ => Err(self.unexpected(wanted)),
         }
     }
 
     /// The two numbers of the list that stands here.
     pub fn two_numbers(&self, wanted: &'static str) -> Result<(usize, usize), Fault<'v>> {
-        let (first, second) = self.pair(wanted)?;
-        Ok((first.number()?, second.number()?))
+        self.expect_items(2, wanted)?;
+        Ok((self.at(0).number()?, self.at(1).number()?))
     }
 
     /// The numbers of the list that stands here.

@@ -21,8 +21,8 @@ impl Told for char {
 
 impl Told for Indent {
     fn told<'v>(_alloc: Global, spot: &Spot<'v>) -> Result<Indent, Fault<'v>> {
-        let (size, fill) = spot.pair("a size and a character, as [1, \" \"]")?;
-        Ok(Indent::new(size.number()?, fill.character()?))
+        spot.expect_items(2, "a size and a character, as [1, \" \"]")?;
+        Ok(Indent::new(spot.at(0).number()?, spot.at(1).character()?))
     }
 }
 
@@ -39,11 +39,21 @@ impl Told for Offset {
 impl Told for ANSIBuf {
     fn told<'v>(alloc: Global, spot: &Spot<'v>) -> Result<ANSIBuf, Fault<'v>> {
         let wanted = "the text before what is coloured and the one after it";
-        let (prefix, suffix) = spot.pair(wanted)?;
-        match (prefix.text(), suffix.text()) {
-            (Some(prefix), Some(suffix)) => Ok(ANSIBuf::new(alloc, prefix, suffix)?),
-            _ => Err(spot.unexpected(wanted)),
-        }
+        spot.expect_items(2, wanted)?;
+        color_of(alloc, spot, (spot.at(0).text(), spot.at(1).text()), wanted)
+    }
+}
+
+/// The colour that stands at a place, by the text before what is coloured and the one after it.
+pub fn color_of<'v>(
+    alloc: Global,
+    spot: &Spot<'v>,
+    texts: (Option<&str>, Option<&str>),
+    wanted: &'static str,
+) -> Result<ANSIBuf, Fault<'v>> {
+    match texts {
+        (Some(prefix), Some(suffix)) => Ok(ANSIBuf::new(alloc, prefix, suffix)?),
+        _ => Err(spot.unexpected(wanted)),
     }
 }
 
