@@ -10,7 +10,7 @@ ghost use Rattle.papergrid_values.specs.Lines.{all_lines};
 ghost use Rattle.papergrid_values.specs.declared.direction.Direction.TheVariants.{Columns, Rows};
 
 use crate::spanned::SpannedConfig;
-use papergrid_maps::ConfigView;
+use papergrid_tables::BorderTable;
 use papergrid_values::{ANSIBuf, Direction, Position};
 
 // A table of n columns has its vertical lines at 0 to n, and one of n rows its horizontal lines.
@@ -105,7 +105,7 @@ impl SpannedConfig {
         requires { count < 2 ^ 64 - 1 }
         ensures { result ≡ all_lines (line_along self.now.characters Columns count) count }
     {
-        self.count_lines(Direction::Columns, count)
+        count_lines(&self.characters, Direction::Columns, count)
     }
 
     /// How many horizontal lines a table of so many rows has. Condition: their number is below the
@@ -114,16 +114,19 @@ impl SpannedConfig {
         requires { count < 2 ^ 64 - 1 }
         ensures { result ≡ all_lines (line_along self.now.characters Rows count) count }
     {
-        self.count_lines(Direction::Rows, count)
+        count_lines(&self.characters, Direction::Rows, count)
     }
+}
 
-    // How many lines a table has along a direction.
-    fn count_lines(&self, direction: Direction, count: usize) -> usize
-        requires { count < 2 ^ 64 - 1 }
-        ensures { result ≡ all_lines (line_along self.now.characters direction count) count }
-    {
-        (0..count + 1)
-            .filter(|i| self.has_line(direction, count, *i))
-            .count()
-    }
+// How many lines a table has along a direction.
+fn count_lines(characters: &BorderTable<char>, direction: Direction, count: usize) -> usize
+    requires { count < 2 ^ 64 - 1 }
+    ensures { result ≡ all_lines (line_along characters.now direction count) count }
+{
+    (0..count + 1)
+        .filter(|i| match direction {
+            Direction::Columns => characters.has_vertical(*i, count),
+            Direction::Rows => characters.has_horizontal(*i, count),
+        })
+        .count()
 }
