@@ -121,6 +121,14 @@ where
     conclude::<T, M, _, S>(alloc, columns, rows, &both, settings, certify)
 }
 
+/// The sizes alone of what was found.
+pub fn sizes_of(found: PerDirection<Solved>) -> (Vec<usize>, Vec<usize>)
+    ensures { result ≡ (found.columns.sizes, found.rows.sizes) }
+{
+    let PerDirection { columns, rows } = found;
+    (columns.sizes, rows.sizes)
+}
+
 /// What the records come to along columns and along rows, as their sizes are chosen.
 ///
 /// # Errors

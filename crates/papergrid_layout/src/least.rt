@@ -170,9 +170,10 @@ where
         IsLeastSized (problem_of (spanned_grid config.now) (line_measure R.Iter.Cell.text)
         (R.columns records) cells direction) result)) }
 {
-    solve_along::<ByLeastTotal, ByLines, _, _>(alloc, records, config, direction, false).map(
-        |found| found.sizes,
-    )
+    let found = solve_along::<ByLeastTotal, ByLines, _, _>(
+        alloc, records, config, direction, false,
+    )?;
+    Ok(found.sizes)
 }
 
 /// The total of the records along a direction: the sum of the sizes and of the lines.
