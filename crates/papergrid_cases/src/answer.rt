@@ -1,6 +1,6 @@
 //! What comes of a question, as a text.
 
-use crate::marks::Marked;
+use crate::marks::Lettered;
 use papergrid_values::Position;
 use std::alloc::Global;
 use std::cmp::Ordering;
@@ -68,8 +68,9 @@ impl Answer {
     }
 
     /// The mark of a value, or `_` for none.
-    pub fn mark<T: Marked>(&mut self, value: Option<&T>) {
-        self.marks(&[value]);
+    pub fn mark<T: Lettered>(&mut self, value: Option<&T>) {
+        self.space();
+        self.part(value);
     }
 
     /// A character, or `_` for none.
@@ -78,13 +79,18 @@ impl Answer {
     }
 
     /// A word of marks.
-    pub fn marks<T: Marked>(&mut self, values: &[Option<&T>]) {
+    pub fn parts<T: Lettered>(&mut self, values: &[&Option<T>]) {
         self.space();
         for value in values {
-            match value {
-                Some(value) => self.spelled(value.letter(), ' '),
-                None => self.push("_"),
-            }
+            self.part(value.as_ref());
+        }
+    }
+
+    /// The next mark of a word.
+    pub fn part<T: Lettered>(&mut self, value: Option<&T>) {
+        match value {
+            Some(value) => self.spelled(value.letter(), ' '),
+            None => self.push("_"),
         }
     }
 

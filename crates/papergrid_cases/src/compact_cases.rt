@@ -6,7 +6,6 @@ use crate::reading::Words;
 use crate::running::{Outcome, Subject};
 use crate::sides::{alignment_horizontal, sides};
 use papergrid_config::CompactConfig;
-use papergrid_values::{ANSIStr, Sides};
 use std::alloc::Global;
 use std::mem;
 
@@ -50,8 +49,8 @@ fn ask_config(config: &CompactConfig, word: &str, words: &mut Words<'_>, answer:
     match word {
         "get_margin" => answer.indents(config.get_margin()),
         "get_padding" => answer.indents(config.get_padding()),
-        "get_margin_color" => answer.marks(&marks_of(config.get_margin_color())),
-        "get_padding_color" => answer.marks(&marks_of(config.get_padding_color())),
+        "get_margin_color" => answer.sides(config.get_margin_color()),
+        "get_padding_color" => answer.sides(config.get_padding_color()),
         "get_borders" => answer.frame(config.get_borders()),
         "get_borders_color" => answer.frame(config.get_borders_color()),
         "get_alignment_horizontal" => {
@@ -76,10 +75,4 @@ pub fn with_setting(config: CompactConfig, word: &str, words: &mut Words<'_>) ->
             config
         }
     }
-}
-
-/// The colours left, right, above and below.
-fn marks_of<'a>(sides: &'a Sides<ANSIStr<'static>>) -> [Option<&'a ANSIStr<'static>>; 4] {
-    let (left, right) = (Some(&sides.left), Some(&sides.right));
-    [left, right, Some(&sides.top), Some(&sides.bottom)]
 }

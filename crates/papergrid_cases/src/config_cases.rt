@@ -72,13 +72,7 @@ impl Kind for Config {
     fn ask(&self, word: &str, words: &mut Words<'_>, answer: &mut Answer) -> Outcome {
         if word == "is_in_range" {
             let word = words.word();
-            let setting = setting(word, words);
-            answer.flag(
-                setting
-                    .as_ref()
-                    .is_some_and(|setting| setting.is_in_range()),
-            );
-            drop(setting);
+            answer.flag(is_in_range(word, words));
             return Ok(());
         }
         config_questions::ask(&self.config, word, words, answer)
@@ -88,14 +82,22 @@ impl Kind for Config {
         self.config == other.config
     }
 
-    fn copied(&self) -> Result<Config, AllocError> {
-        Ok(Config {
-            alloc: self.alloc,
-            config: self.config.clone()?,
-            compact: self.compact,
-            settings: Vec::new(self.alloc),
-        })
+    fn copy_from(&mut self, other: &Config) -> Outcome {
+        self.config = other.config.clone()?;
+        self.compact = other.compact;
+        Ok(())
     }
+}
+
+/// Whether what a line tells is a setting in range.
+fn is_in_range(word: &str, words: &mut Words<'_>) -> bool {
+    let setting = setting(word, words);
+    let is_in_range = match &setting {
+        Some(setting) => setting.is_in_range(),
+        None => false,
+    };
+    drop(setting);
+    is_in_range
 }
 
 /// Adds the setting that a line tells to those that are applied next.

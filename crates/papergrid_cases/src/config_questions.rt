@@ -18,8 +18,8 @@ pub fn ask(
     match word {
         "get_column_spans" => answer.spans(config.get_column_spans(), words),
         "get_row_spans" => answer.spans(config.get_row_spans(), words),
-        "get_horizontal_lines" => answer.horizontal_lines(config.get_horizontal_lines(), words),
-        "get_vertical_lines" => answer.vertical_lines(config.get_vertical_lines(), words),
+        "get_horizontal_lines" => answer.lines(config.get_horizontal_lines(), words),
+        "get_vertical_lines" => answer.lines(config.get_vertical_lines(), words),
         "padded_cells" => show_found(config.padded_cells(), answer),
         _ => {
             ask_flags(config, word, words, answer);
@@ -63,8 +63,8 @@ fn ask_table(config: &SpannedConfig, word: &str, words: &mut Words<'_>, answer: 
         "get_borders_missing" => answer.character(Some(config.get_borders_missing())),
         "count_vertical" => answer.number(config.count_vertical(words.inner_number())),
         "count_horizontal" => answer.number(config.count_horizontal(words.inner_number())),
-        "get_horizontal_line" => answer.horizontal_line(config.get_horizontal_line(words.number())),
-        "get_vertical_line" => answer.vertical_line(config.get_vertical_line(words.number())),
+        "get_horizontal_line" => answer.line(config.get_horizontal_line(words.number())),
+        "get_vertical_line" => answer.line(config.get_vertical_line(words.number())),
         _ => ask_borders(config, word, words, answer),
     }
 }
@@ -72,10 +72,10 @@ fn ask_table(config: &SpannedConfig, word: &str, words: &mut Words<'_>, answer: 
 fn ask_borders(config: &SpannedConfig, word: &str, words: &mut Words<'_>, answer: &mut Answer) {
     match word {
         "get_border" => {
-            answer.border_of_characters(&config.get_border(words.inner_position(), words.pair()));
+            answer.border(&config.get_border(words.inner_position(), words.pair()));
         }
         "get_border_color" => {
-            answer.border(config.get_border_color(words.inner_position(), words.pair()));
+            answer.border(&config.get_border_color(words.inner_position(), words.pair()));
         }
         _ => ask_cell(config, word, words.position(), words, answer),
     }

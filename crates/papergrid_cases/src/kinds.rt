@@ -10,7 +10,7 @@ use crate::size_questions::show_found;
 use papergrid_maps::SpanTable;
 use papergrid_tables::{BorderTable, OffsetTable};
 use papergrid_values::Offset;
-use std::alloc::{AllocError, Global};
+use std::alloc::Global;
 
 impl Kind for BorderTable<char> {
     fn new_one(alloc: Global) -> BorderTable<char> {
@@ -38,14 +38,10 @@ impl Kind for BorderTable<char> {
 
     fn ask(&self, word: &str, words: &mut Words<'_>, answer: &mut Answer) -> Outcome {
         match word {
-            "get_horizontal_lines" => {
-                return answer.horizontal_lines(self.get_horizontal_lines(), words);
-            }
-            "get_vertical_lines" => return answer.vertical_lines(self.get_vertical_lines(), words),
-            "get_horizontal_line" => {
-                answer.horizontal_line(self.get_horizontal_line(words.number()))
-            }
-            "get_vertical_line" => answer.vertical_line(self.get_vertical_line(words.number())),
+            "get_horizontal_lines" => return answer.lines(self.get_horizontal_lines(), words),
+            "get_vertical_lines" => return answer.lines(self.get_vertical_lines(), words),
+            "get_horizontal_line" => answer.line(self.get_horizontal_line(words.number())),
+            "get_vertical_line" => answer.line(self.get_vertical_line(words.number())),
             "get_borders" => answer.frame(self.get_borders()),
             "get_global" => answer.mark(self.get_global()),
             _ => ask_borders(self, word, words, answer),
@@ -57,15 +53,16 @@ impl Kind for BorderTable<char> {
         self == other
     }
 
-    fn copied(&self) -> Result<BorderTable<char>, AllocError> {
-        self.clone()
+    fn copy_from(&mut self, other: &BorderTable<char>) -> Outcome {
+        *self = other.clone()?;
+        Ok(())
     }
 }
 
 fn ask_borders(table: &BorderTable<char>, word: &str, words: &mut Words<'_>, answer: &mut Answer) {
     match word {
         "get_border" => {
-            answer.border(table.get_border(words.inner_position(), words.pair()));
+            answer.border(&table.get_border(words.inner_position(), words.pair()));
         }
         "get_vertical" => answer.mark(table.get_vertical(words.position(), words.number())),
         "get_horizontal" => answer.mark(table.get_horizontal(words.position(), words.number())),
@@ -119,8 +116,9 @@ impl Kind for OffsetTable<char> {
         self == other
     }
 
-    fn copied(&self) -> Result<OffsetTable<char>, AllocError> {
-        self.clone()
+    fn copy_from(&mut self, other: &OffsetTable<char>) -> Outcome {
+        *self = other.clone()?;
+        Ok(())
     }
 }
 
@@ -156,8 +154,9 @@ impl Kind for SpanTable {
         self == other
     }
 
-    fn copied(&self) -> Result<SpanTable, AllocError> {
-        self.clone()
+    fn copy_from(&mut self, other: &SpanTable) -> Outcome {
+        *self = other.clone()?;
+        Ok(())
     }
 }
 

@@ -40,9 +40,9 @@ use table_cases::TableCases;
 fn main(rt: HostRuntime) -> ExitCode {
     let mut is_right = true;
     match env::args(&rt) {
-        // The first word is the program's name.
-        Ok(names) => {
-            for name in names.skip(1) {
+        Ok(mut names) => {
+            let _program = names.next();
+            for name in names {
                 is_right = is_file_right(&rt, name.as_str()) && is_right;
             }
         }

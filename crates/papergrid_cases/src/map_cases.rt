@@ -66,12 +66,9 @@ impl Kind for Map {
         self.map == other.map
     }
 
-    fn copied(&self) -> Result<Map, AllocError> {
-        Ok(Map {
-            alloc: self.alloc,
-            map: self.map.clone()?,
-            calls: Vec::new(self.alloc),
-        })
+    fn copy_from(&mut self, other: &Map) -> Outcome {
+        self.map = other.map.clone()?;
+        Ok(())
     }
 }
 

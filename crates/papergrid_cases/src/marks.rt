@@ -5,19 +5,30 @@ use papergrid_values::{ANSIBuf, ANSIStr, Border, Borders, HorizontalLine, Vertic
 use std::alloc::AllocError;
 
 /// What a mark may stand for.
-pub trait Marked: Sized + Drop {
+pub trait Marked: Lettered {
     /// What the next mark of a line stands for.
     fn read(words: &mut Words<'_>) -> Option<Self>;
+}
 
+/// What has a mark.
+pub trait Lettered: Sized + Drop {
     /// The mark.
     fn letter(&self) -> char;
+}
+
+impl<T: Lettered> Lettered for &T {
+    fn letter(&self) -> char {
+        (**self).letter()
+    }
 }
 
 impl Marked for char {
     fn read(words: &mut Words<'_>) -> Option<char> {
         words.mark()
     }
+}
 
+impl Lettered for char {
     fn letter(&self) -> char {
         *self
     }
@@ -55,7 +66,9 @@ impl Marked for ANSIStr<'static> {
         words.lacks("the letter of a colour");
         None
     }
+}
 
+impl Lettered for ANSIStr<'static> {
     fn letter(&self) -> char {
         letter_of(self.get_prefix(), self.get_suffix())
     }
@@ -72,7 +85,9 @@ impl Marked for ANSIBuf {
             }
         }
     }
+}
 
+impl Lettered for ANSIBuf {
     fn letter(&self) -> char {
         letter_of(self.get_prefix(), self.get_suffix())
     }

@@ -3,7 +3,7 @@
 use crate::answer::Answer;
 use crate::reading::Words;
 use crate::running::{Outcome, Report, Subject, run};
-use std::alloc::{AllocError, Global};
+use std::alloc::Global;
 use std::mem;
 
 /// What can be told calls and asked for what they left.
@@ -25,8 +25,8 @@ pub trait Kind: Sized + Drop {
     /// Whether both were left the same.
     fn is_like(&self, other: &Self) -> bool;
 
-    /// Its clone.
-    fn copied(&self) -> Result<Self, AllocError>;
+    /// Becomes a clone of another one.
+    fn copy_from(&mut self, other: &Self) -> Outcome;
 }
 
 /// One that is spoken of, and another one: `swap` exchanges them, and `copy` makes the other one equal the first.
@@ -58,8 +58,7 @@ impl<T: Kind> Subject for Pair<T> {
             }
             "copy" => {
                 self.one.settle(words)?;
-                self.other = self.one.copied()?;
-                Ok(())
+                self.other.copy_from(&self.one)
             }
             _ => self.one.tell(word, words),
         }

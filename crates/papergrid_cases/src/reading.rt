@@ -5,6 +5,13 @@ ghost use Rattle.std.specs.Prelude.{◌+◌, ◌-◌, ◌<◌, ◌^◌};
 use papergrid_values::{Direction, Entity, Position};
 use std::alloc::{AllocError, Global};
 
+const DIRECTIONS: [(&str, Direction); 2] = [
+    ("columns", Direction::Columns),
+    ("rows", Direction::Rows),
+];
+
+const FLAGS: [(&str, bool); 2] = [("true", true), ("false", false)];
+
 /// What is left of a line. What can't be read is noted, and something is given in its place: so no call fails before the
 /// line ends.
 #[derive(Drop)]
@@ -152,25 +159,28 @@ impl<'a> Words<'a> {
     }
 
     pub fn direction(&mut self) -> Direction {
-        match self.word() {
-            "columns" => Direction::Columns,
-            "rows" => Direction::Rows,
-            _ => {
-                self.lacks("columns or rows");
-                Direction::Rows
-            }
-        }
+        self.named(&DIRECTIONS, "columns or rows", Direction::Rows)
     }
 
     pub fn flag(&mut self) -> bool {
-        match self.word() {
-            "true" => true,
-            "false" => false,
-            _ => {
-                self.lacks("true or false");
-                false
+        self.named(&FLAGS, "true or false", false)
+    }
+
+    /// The value that the next word names; where it names none, that is noted, and this one is given.
+    pub fn named<T: Copy>(
+        &mut self,
+        values: &[(&str, T)],
+        wanted: &'static str,
+        otherwise: T,
+    ) -> T {
+        let word = self.word();
+        for (name, value) in values {
+            if *name == word {
+                return *value;
             }
         }
+        self.lacks(wanted);
+        otherwise
     }
 
     /// The next character, whether a space follows or not.

@@ -55,12 +55,15 @@ pub fn run<S: Subject>(rt: &HostRuntime, file: &str, text: &str) -> Report {
         is_right: true,
     };
     let mut subject = S::start(rt.alloc());
-    for (index, line) in text.lines().enumerate() {
+    // Lines are counted from 1.
+    let mut number = 0_usize;
+    for line in text.lines() {
+        number = number.saturating_add(1);
         if line.starts_with("case ") {
             report.cases = report.cases.saturating_add(1);
             subject = S::start(rt.alloc());
         } else if !line.is_empty() && !line.starts_with('#') {
-            run_line(rt, file, index, line, &mut subject, &mut report);
+            run_line(rt, file, number, line, &mut subject, &mut report);
         }
     }
     report
@@ -70,7 +73,7 @@ pub fn run<S: Subject>(rt: &HostRuntime, file: &str, text: &str) -> Report {
 fn run_line<S: Subject>(
     rt: &HostRuntime,
     file: &str,
-    index: usize,
+    number: usize,
     line: &str,
     subject: &mut S,
     report: &mut Report,
@@ -81,7 +84,7 @@ fn run_line<S: Subject>(
     // A line that is no question wants no answer.
     if !came.is(wanted.unwrap_or("")) {
         report.is_right = false;
-        complain(rt, file, index, line, came.as_str());
+        complain(rt, file, number, line, came.as_str());
     }
 }
 
@@ -93,9 +96,8 @@ fn parts_of(line: &str) -> (&str, Option<&str>) {
     }
 }
 
-/// Writes an answer that differs. Lines are counted from 1.
-fn complain(rt: &impl Print, file: &str, index: usize, line: &str, came: &str) {
-    let number = index.saturating_add(1);
+/// Writes an answer that differs.
+fn complain(rt: &impl Print, file: &str, number: usize, line: &str, came: &str) {
     let _ = println!(rt; "{file}:{number}: {line}: came {came}");
 }
 

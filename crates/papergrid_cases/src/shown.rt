@@ -1,9 +1,10 @@
 //! Values as answers, spelled as they are read.
 
 use crate::answer::Answer;
-use crate::marks::Marked;
+use crate::marks::Lettered;
 use crate::reading::Words;
 use crate::running::Outcome;
+use crate::size_questions::Shown;
 use papergrid_values::{
     ANSIBuf, AlignmentHorizontal, AlignmentVertical, Border, Borders, HorizontalLine, Indent,
     Offset, Position, Sides, VerticalLine,
@@ -13,93 +14,28 @@ use std::collections::HashMap;
 
 impl Answer {
     /// The eight parts round a cell: three above it, two beside it, three below it.
-    pub fn border<T: Marked>(&mut self, border: Border<&T>) {
-        self.parts(
-            &[border.left_top_corner, border.top, border.right_top_corner],
-            &[border.left, border.right],
-            &[
-                border.left_bottom_corner,
-                border.bottom,
-                border.right_bottom_corner,
-            ],
-        );
-    }
-
-    /// The same of characters.
-    pub fn border_of_characters(&mut self, border: &Border<char>) {
+    pub fn border<T: Lettered>(&mut self, border: &Border<T>) {
         let (left, right) = (&border.left_top_corner, &border.right_top_corner);
-        let (lower_left, lower_right) = (&border.left_bottom_corner, &border.right_bottom_corner);
-        self.parts(
-            &[left.as_ref(), border.top.as_ref(), right.as_ref()],
-            &[border.left.as_ref(), border.right.as_ref()],
-            &[
-                lower_left.as_ref(),
-                border.bottom.as_ref(),
-                lower_right.as_ref(),
-            ],
-        );
-    }
-
-    fn parts<T: Marked>(
-        &mut self,
-        above: &[Option<&T>],
-        beside: &[Option<&T>],
-        below: &[Option<&T>],
-    ) {
-        self.marks(above);
-        self.marks(beside);
-        self.marks(below);
+        self.parts(&[left, &border.top, right]);
+        self.parts(&[&border.left, &border.right]);
+        let (left, right) = (&border.left_bottom_corner, &border.right_bottom_corner);
+        self.parts(&[left, &border.bottom, right]);
     }
 
     /// The parts of a frame, as they are read.
-    pub fn frame<T: Marked>(&mut self, frame: &Borders<T>) {
-        let (left, right) = (frame.top_left.as_ref(), frame.top_right.as_ref());
-        self.marks(&[
-            left,
-            frame.top.as_ref(),
-            frame.top_intersection.as_ref(),
-            right,
-        ]);
-        self.marks(&[
-            frame.left.as_ref(),
-            frame.vertical.as_ref(),
-            frame.right.as_ref(),
-        ]);
-        let (left, right) = (
-            frame.left_intersection.as_ref(),
-            frame.right_intersection.as_ref(),
-        );
-        self.marks(&[
-            left,
-            frame.horizontal.as_ref(),
-            frame.intersection.as_ref(),
-            right,
-        ]);
-        let (left, right) = (frame.bottom_left.as_ref(), frame.bottom_right.as_ref());
-        self.marks(&[
-            left,
-            frame.bottom.as_ref(),
-            frame.bottom_intersection.as_ref(),
-            right,
-        ]);
+    pub fn frame<T: Lettered>(&mut self, frame: &Borders<T>) {
+        let (left, right) = (&frame.top_left, &frame.top_right);
+        self.parts(&[left, &frame.top, &frame.top_intersection, right]);
+        self.parts(&[&frame.left, &frame.vertical, &frame.right]);
+        let (left, right) = (&frame.left_intersection, &frame.right_intersection);
+        self.parts(&[left, &frame.horizontal, &frame.intersection, right]);
+        let (left, right) = (&frame.bottom_left, &frame.bottom_right);
+        self.parts(&[left, &frame.bottom, &frame.bottom_intersection, right]);
     }
 
-    pub fn horizontal_line(&mut self, line: Option<&HorizontalLine<char>>) {
+    pub fn line<T: Shown>(&mut self, line: Option<&T>) {
         match line {
-            Some(line) => {
-                let (left, right) = (line.left.as_ref(), line.right.as_ref());
-                self.marks(&[left, line.main.as_ref(), line.intersection.as_ref(), right]);
-            }
-            None => self.word("none"),
-        }
-    }
-
-    pub fn vertical_line(&mut self, line: Option<&VerticalLine<char>>) {
-        match line {
-            Some(line) => {
-                let (top, bottom) = (line.top.as_ref(), line.bottom.as_ref());
-                self.marks(&[top, line.main.as_ref(), line.intersection.as_ref(), bottom]);
-            }
+            Some(line) => line.show(self),
             None => self.word("none"),
         }
     }
@@ -130,6 +66,15 @@ impl Answer {
         self.digits(number);
     }
 
+    /// A word of a mark for each side.
+    pub fn sides<T: Lettered>(&mut self, sides: &Sides<T>) {
+        self.space();
+        self.part(Some(&sides.left));
+        self.part(Some(&sides.right));
+        self.part(Some(&sides.top));
+        self.part(Some(&sides.bottom));
+    }
+
     /// A mark for each colour.
     pub fn colors(&mut self, colors: [Option<&ANSIBuf>; 4]) {
         for color in colors {
@@ -153,7 +98,7 @@ impl Answer {
         });
     }
 
-    /// How many spans are found, and the one of the position that the line names, if it names one: so in the two below.
+    /// How many spans are found, and the one of the position that the line names, if it names one: so in the next one.
     pub fn spans(
         &mut self,
         found: Result<HashMap<Position, usize>, AllocError>,
@@ -167,29 +112,28 @@ impl Answer {
         Ok(())
     }
 
-    pub fn horizontal_lines(
+    pub fn lines<T: Shown>(
         &mut self,
-        found: Result<HashMap<usize, HorizontalLine<char>>, AllocError>,
+        found: Result<HashMap<usize, T>, AllocError>,
         words: &mut Words<'_>,
     ) -> Outcome {
         let lines = found?;
         self.number(lines.len());
         if !words.is_empty() {
-            self.horizontal_line(lines.get(&words.number()));
+            self.line(lines.get(&words.number()));
         }
         Ok(())
     }
+}
 
-    pub fn vertical_lines(
-        &mut self,
-        found: Result<HashMap<usize, VerticalLine<char>>, AllocError>,
-        words: &mut Words<'_>,
-    ) -> Outcome {
-        let lines = found?;
-        self.number(lines.len());
-        if !words.is_empty() {
-            self.vertical_line(lines.get(&words.number()));
-        }
-        Ok(())
+impl Shown for HorizontalLine<char> {
+    fn show(&self, answer: &mut Answer) {
+        answer.parts(&[&self.left, &self.main, &self.intersection, &self.right]);
+    }
+}
+
+impl Shown for VerticalLine<char> {
+    fn show(&self, answer: &mut Answer) {
+        answer.parts(&[&self.top, &self.main, &self.intersection, &self.bottom]);
     }
 }

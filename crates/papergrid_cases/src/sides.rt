@@ -6,6 +6,18 @@ use papergrid_values::{
     ANSIBuf, ANSIStr, AlignmentHorizontal, AlignmentVertical, Indent, Offset, Sides,
 };
 
+const HORIZONTAL: [(&str, AlignmentHorizontal); 3] = [
+    ("Left", AlignmentHorizontal::Left),
+    ("Center", AlignmentHorizontal::Center),
+    ("Right", AlignmentHorizontal::Right),
+];
+
+const VERTICAL: [(&str, AlignmentVertical); 3] = [
+    ("Top", AlignmentVertical::Top),
+    ("Center", AlignmentVertical::Center),
+    ("Bottom", AlignmentVertical::Bottom),
+];
+
 /// What there is one of for each side.
 pub trait Side {
     /// The next one of a line.
@@ -61,27 +73,11 @@ pub fn sides<T: Side>(words: &mut Words<'_>) -> Sides<T> {
 }
 
 pub fn alignment_horizontal(words: &mut Words<'_>) -> AlignmentHorizontal {
-    match words.word() {
-        "Center" => AlignmentHorizontal::Center,
-        "Right" => AlignmentHorizontal::Right,
-        word => {
-            if word != "Left" {
-                words.lacks("Left, Center or Right");
-            }
-            AlignmentHorizontal::Left
-        }
-    }
+    let left = AlignmentHorizontal::Left;
+    words.named(&HORIZONTAL, "Left, Center or Right", left)
 }
 
 pub fn alignment_vertical(words: &mut Words<'_>) -> AlignmentVertical {
-    match words.word() {
-        "Center" => AlignmentVertical::Center,
-        "Bottom" => AlignmentVertical::Bottom,
-        word => {
-            if word != "Top" {
-                words.lacks("Top, Center or Bottom");
-            }
-            AlignmentVertical::Top
-        }
-    }
+    let top = AlignmentVertical::Top;
+    words.named(&VERTICAL, "Top, Center or Bottom", top)
 }

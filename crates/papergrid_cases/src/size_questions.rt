@@ -11,7 +11,7 @@ use papergrid_layout::{
 };
 use papergrid_maps::Anchor;
 use papergrid_text::{Cell, IntoRecords, Records, VecRecords};
-use papergrid_values::{Direction, Position};
+use papergrid_values::Position;
 use std::alloc::{AllocError, Global};
 use std::convert::AsStr;
 
@@ -49,8 +49,12 @@ impl Shown for Vec<usize> {
 /// The size that all are, where there are ten or more.
 fn many_alike(sizes: &[usize]) -> Option<usize> {
     let first = sizes.first()?;
-    let are_alike = 9 < sizes.len() && sizes.iter().all(|size| size == first);
-    are_alike.then_some(*first)
+    for size in sizes {
+        if size != first {
+            return None;
+        }
+    }
+    if 9 < sizes.len() { Some(*first) } else { None }
 }
 
 /// Widths, a bar and heights.
@@ -116,13 +120,13 @@ pub fn show<T: Shown>(found: LayoutResult<T>, answer: &mut Answer) {
 
 /// Answers a question on sizes by shares or on the least ones, or another question on sizes.
 pub fn ask_sizes(told: Told<'_>, word: &str, words: &mut Words<'_>, answer: &mut Answer) {
+    let (alloc, table, config) = (told.alloc, told.table, told.config);
     match word {
-        "widths" | "heights" | "least_widths" | "least_heights" => show(
-            along(told.alloc, told.table.lent(), told.config, word),
-            answer,
-        ),
-        "totals" => show_totals(told, Sizing::ByShares, answer),
-        "least_totals" => show_totals(told, Sizing::Least, answer),
+        "widths" | "heights" | "least_widths" | "least_heights" => {
+            show(along(alloc, table.lent(), config, word), answer);
+        }
+        "totals" => show_totals(alloc, table.lent(), config, Sizing::ByShares, answer),
+        "least_totals" => show_totals(alloc, table.lent(), config, Sizing::Least, answer),
         "kept_sizes" => show(kept(told), answer),
         "least_sizes" => show(least(told), answer),
         _ => ask_cells(told, word, words, answer),
@@ -149,38 +153,37 @@ where
 }
 
 /// Shows the width and the height of the table.
-fn show_totals(told: Told<'_>, sizing: Sizing, answer: &mut Answer) {
-    let (alloc, table, config) = (told.alloc, told.table, told.config);
-    let width = total(alloc, table.lent(), config, sizing, Direction::Columns);
-    show(width, answer);
-    let height = total(alloc, table.lent(), config, sizing, Direction::Rows);
-    show(height, answer);
-}
-
-/// The total along a direction: the width or the height.
-fn total<R: Records + Drop>(
+fn show_totals<R: Records + Copy + Drop>(
     alloc: Global,
     records: R,
     config: &SpannedConfig,
     sizing: Sizing,
-    direction: Direction,
-) -> LayoutResult<usize>
+    answer: &mut Answer,
+)
 where
     <<R as Records>::Iter as IntoRecords>::Cell: AsStr + Drop,
     requires { R.is_lawful records }
 {
-    match (sizing, direction) {
-        (Sizing::ByShares, Direction::Columns) => {
-            IterGridDimension::width_total(alloc, records, config)
+    match sizing {
+        Sizing::ByShares => {
+            show(
+                IterGridDimension::width_total(alloc, records, config),
+                answer,
+            );
+            show(
+                IterGridDimension::height_total(alloc, records, config),
+                answer,
+            );
         }
-        (Sizing::ByShares, Direction::Rows) => {
-            IterGridDimension::height_total(alloc, records, config)
-        }
-        (Sizing::Least, Direction::Columns) => {
-            LeastGridDimension::width_total(alloc, records, config)
-        }
-        (Sizing::Least, Direction::Rows) => {
-            LeastGridDimension::height_total(alloc, records, config)
+        Sizing::Least => {
+            show(
+                LeastGridDimension::width_total(alloc, records, config),
+                answer,
+            );
+            show(
+                LeastGridDimension::height_total(alloc, records, config),
+                answer,
+            );
         }
     }
 }
@@ -274,5 +277,9 @@ fn of_small(alloc: Global, config: &SpannedConfig) -> LayoutResult<IterGridDimen
 }
 
 fn small(alloc: Global) -> Result<VecRecords<&'static str>, AllocError> {
-    Ok(VecRecords::new(vec![in alloc; vec![in alloc; "ab"]?]?))
+    let mut row = Vec::new(alloc);
+    row.push("ab")?;
+    let mut rows = Vec::new(alloc);
+    rows.push(row)?;
+    Ok(VecRecords::new(rows))
 }

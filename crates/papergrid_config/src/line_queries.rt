@@ -10,7 +10,8 @@ ghost use Rattle.papergrid_values.specs.Lines.{all_lines};
 ghost use Rattle.papergrid_values.specs.declared.direction.Direction.TheVariants.{Columns, Rows};
 
 use crate::spanned::SpannedConfig;
-use papergrid_values::{ANSIBuf, Position};
+use papergrid_tables::BorderTable;
+use papergrid_values::{ANSIBuf, Direction, Position};
 
 // A table of n columns has its vertical lines at 0 to n, and one of n rows its horizontal lines.
 impl SpannedConfig {
@@ -104,9 +105,7 @@ impl SpannedConfig {
         requires { count < 2 ^ 64 - 1 }
         ensures { result ≡ all_lines (line_along self.now.characters Columns count) count }
     {
-        (0..count + 1)
-            .filter(|col| self.has_vertical(*col, count))
-            .count()
+        count_lines(&self.characters, Direction::Columns, count)
     }
 
     /// How many horizontal lines a table of so many rows has. Condition: their number is below the
@@ -115,8 +114,19 @@ impl SpannedConfig {
         requires { count < 2 ^ 64 - 1 }
         ensures { result ≡ all_lines (line_along self.now.characters Rows count) count }
     {
-        (0..count + 1)
-            .filter(|row| self.has_horizontal(*row, count))
-            .count()
+        count_lines(&self.characters, Direction::Rows, count)
     }
+}
+
+// How many lines a table has along a direction.
+fn count_lines(characters: &BorderTable<char>, direction: Direction, count: usize) -> usize
+    requires { count < 2 ^ 64 - 1 }
+    ensures { result ≡ all_lines (line_along characters.now direction count) count }
+{
+    (0..count + 1)
+        .filter(|i| match direction {
+            Direction::Columns => characters.has_vertical(*i, count),
+            Direction::Rows => characters.has_horizontal(*i, count),
+        })
+        .count()
 }

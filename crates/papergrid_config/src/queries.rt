@@ -23,7 +23,7 @@ impl SpannedConfig {
     {
         let horizontal = self.horizontal_chars.is_empty();
         let vertical = self.vertical_chars.is_empty();
-        !(horizontal && vertical)
+        !(horizontal & vertical)
     }
 
     /// Whether what stands on a line is that of the whole line: no edge or corner of a cell, no colour of a line, and no
@@ -50,7 +50,7 @@ impl SpannedConfig {
         let character = self.justification.is_empty();
         let color = self.justification_color.is_empty();
         let global = self.justification_color.as_ref().is_none();
-        !(character && (color && global))
+        !(character & (color & global))
     }
 
     /// Whether a padding is set for a column, a row or a cell.
@@ -74,7 +74,7 @@ impl SpannedConfig {
         let horizontal = self.trim_horizontal.is_empty();
         let vertical = self.trim_vertical.is_empty();
         let lines = self.line_alignment.is_empty();
-        !(horizontal && (vertical && lines))
+        !(horizontal & (vertical & lines))
     }
 
     /// Whether a vertical alignment is set for a column, a row or a cell.

@@ -18,7 +18,7 @@ ghost use Rattle.papergrid_draw.specs.declared.error.DrawError.TheVariants.{Memo
 
 use crate::delivery::{Delivery, ToSink, ToText};
 use crate::error::DrawError;
-use crate::page::Frame;
+use crate::page::{Frame, vertical_lines};
 use crate::plain::is_plain;
 use crate::plain_rows::draw_plain_rows;
 use crate::room::{Room, find_room};
@@ -150,7 +150,8 @@ where
 {
     let config = table.config();
     check_tiles(alloc, config, table.shape())?;
-    let frame = Frame::new(alloc, table, config)?;
+    let verticals = vertical_lines(alloc, table)?;
+    let frame = Frame::new(table, config, verticals);
     draw_tiled::<S, D, W>(alloc, &frame, cells, room, writer)
 }
 

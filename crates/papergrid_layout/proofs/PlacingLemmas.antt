@@ -191,6 +191,14 @@ module _ (table : TableView) where
     complete = λ p cell. are.complete p cell (inl cell.row_in);
   }
 
+  -- without columns or rows there is none
+  pub none-placed : (table.shape.0 ≡ 0) ⊎ (table.shape.1 ≡ 0) → HaveAllPlaces table []
+  none-placed empty = record {
+    in_order = λ i j d l l'. absurd (omega arith);
+    placed = All-nil Has;
+    complete = λ p cell. elim empty [ inl e ↦ absurd (omega (arith, e, cell.row_in)) | inr e ↦ absurd (omega (arith, e, cell.col_in)) ];
+  }
+
   pub first-refused : (r c : ℕ) (list : List (Position × Place)) (error : PlaceError) → IsCell (position_of (r, c)) →
       IsPlaced table (position_of (r, c)) (Err error) → ArePlacedBefore table r c list →
       IsFirstRefused table (position_of (r, c)) error

@@ -4,7 +4,6 @@ ghost use Rattle.std.specs.Prelude.{◌≡◌, List, length};
 ghost use Rattle.papergrid_tracks.specs.Ranges.{first_out};
 ghost use Rattle.papergrid_walk.specs.ForProofs.Pairs.{AreBothGathered};
 ghost use Rattle.papergrid_walk.specs.Measures.{line_measure};
-ghost use Rattle.papergrid_config.specs.Grids.{spanned_grid};
 ghost use Rattle.papergrid_layout.specs.Answers.{AnswersBothWhere, AreTooLargeBy, UnlessMemory};
 ghost use Rattle.papergrid_layout.specs.ForProofs.Earlier.{earlier, earlier_of};
 ghost use Rattle.papergrid_layout.specs.ForProofs.Solved.{IsSolvedWith};
@@ -12,7 +11,6 @@ ghost use Rattle.papergrid_text.specs.Records.{TellsRows};
 
 use crate::along::Along;
 use crate::sizing::Sizing;
-use papergrid_config::SpannedConfig;
 use papergrid_maps::ConfigView;
 use papergrid_text::{IntoRecords, Records};
 use papergrid_tracks::settled::find_out;
@@ -121,15 +119,23 @@ where
     conclude::<T, M, _, S>(alloc, columns, rows, &both, settings, certify)
 }
 
+/// The sizes alone of what was found.
+pub fn sizes_of(found: PerDirection<Solved>) -> (Vec<usize>, Vec<usize>)
+    ensures { result ≡ (found.columns.sizes, found.rows.sizes) }
+{
+    let PerDirection { columns, rows } = found;
+    (columns.sizes, rows.sizes)
+}
+
 /// What the records come to along columns and along rows, as their sizes are chosen.
 ///
 /// # Errors
 ///
 /// As those of `solve_both`.
-pub fn solve_by<R: Records + Drop>(
+pub fn solve_by<R: Records + Drop, S: ConfigView>(
     alloc: Global,
     records: R,
-    config: &SpannedConfig,
+    settings: &S,
     sizing: Sizing,
     certify: bool,
 ) -> LayoutResult<PerDirection<Solved>>
@@ -137,11 +143,15 @@ where
     <<R as Records>::Iter as IntoRecords>::Cell: AsStr + Drop,
     requires { R.is_lawful records }
     ensures { UnlessMemory result (TellsRows R.tells records (λ cells.
-        AnswersBothWhere (spanned_grid config.now) (line_measure R.Iter.Cell.text)
+        AnswersBothWhere (S.grid settings.now) (line_measure R.Iter.Cell.text)
         (R.columns records) cells (AreTooLargeBy sizing) (IsSolvedWith sizing certify) result)) }
 {
     match sizing {
-        Sizing::ByShares => solve_both::<ByShares, ByLines, _, _>(alloc, records, config, certify),
-        Sizing::Least => solve_both::<ByLeastTotal, ByLines, _, _>(alloc, records, config, certify),
+        Sizing::ByShares => solve_both::<ByShares, ByLines, _, _>(
+            alloc, records, settings, certify,
+        ),
+        Sizing::Least => solve_both::<ByLeastTotal, ByLines, _, _>(
+            alloc, records, settings, certify,
+        ),
     }
 }

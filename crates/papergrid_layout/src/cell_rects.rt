@@ -3,7 +3,7 @@
 ghost use Rattle.std.specs.Prelude.{◌≡◌, ◌+◌, ◌-◌, ◌<◌, ◌^◌, ◌⊎◌, [], All, IfErr, IfOk};
 ghost use Rattle.std.specs.Result.{IsOkAnd};
 ghost use Rattle.papergrid_values.specs.declared.direction.Direction.{Direction};
-ghost use Rattle.papergrid_layout.specs.Places.{ArePlacesRefused, EndsWithin, HaveAllPlaces, TableView, table_by, total_along};
+ghost use Rattle.papergrid_layout.specs.Places.{ArePlacesRefused, EndsWithin, HaveAllPlaces, TableView, table_by, table_view_of, total_along};
 ghost use Rattle.papergrid_layout.specs.ForProofs.Placing.{HasPlaced};
 ghost use Rattle.papergrid_layout.specs.Tables.{HasSizes};
 
@@ -13,6 +13,7 @@ use crate::marks::{Marks, place_of};
 use crate::rect::{Place, PlaceError};
 use crate::ruler::Ruler;
 use papergrid_config::SpannedConfig;
+use papergrid_maps::ConfigView;
 use papergrid_tracks::LayoutError;
 use papergrid_values::{Direction, PerDirection, Position};
 use papergrid_walk::Sweep;
@@ -30,30 +31,30 @@ struct Placing {
 
 impl Placing {
     /// Before the first position of a table whose totals fit.
-    fn new<D: Dimension>(
+    fn new<D: Dimension, S: ConfigView>(
         alloc: Global,
         dimension: &D,
-        config: &SpannedConfig,
+        settings: &S,
         shape: (usize, usize),
     ) -> Result<Placing, AllocError>
         requires columns { HasSizes (D.has_column dimension.now) shape.1 }
         requires rows { HasSizes (D.has_row dimension.now) shape.0 }
-        requires fit { let table = table_by config.now (D.width_of dimension.now)
+        requires fit { let table = table_view_of (S.grid settings.now) (D.width_of dimension.now)
             (D.height_of dimension.now) shape in
             (direction : Direction) → total_along table direction < 2 ^ 64 }
-        ensures { let table = table_by config.now (D.width_of dimension.now)
+        ensures { let table = table_view_of (S.grid settings.now) (D.width_of dimension.now)
             (D.height_of dimension.now) shape in
             IfOk result (HasPlaced table 0 0) }
     {
         let (rows, columns) = shape;
-        let across = Ruler::new(dimension, config, Direction::Columns, columns);
-        let down = Ruler::new(dimension, config, Direction::Rows, rows);
+        let across = Ruler::new(dimension, settings, Direction::Columns, columns);
+        let down = Ruler::new(dimension, settings, Direction::Rows, rows);
         Ok(Placing {
             marks: PerDirection {
                 columns: across.marks(alloc)?,
                 rows: down.marks(alloc)?,
             },
-            sweep: sweep_of(alloc, config)?,
+            sweep: sweep_of(alloc, settings)?,
             places: Vec::new(alloc),
         })
     }
@@ -98,20 +99,23 @@ impl Placing {
         Ok(())
     }
 
-    /// Visits all rows of a table of the shape (rows, columns).
-    fn visit_rows(&mut self, alloc: Global, shape: (usize, usize)) -> Result<(), LayoutError>
-        requires placed { (table : TableView) × (shape ≡ table.shape)
-            × HasPlaced table 0 0 self.old }
-        ensures ok { IfOk result (λ _. (table : TableView) → shape ≡ table.shape →
-            HasPlaced table 0 0 self.old → HaveAllPlaces table self.new.places.items) }
+    /// What it meets in all rows of a table of the shape (rows, columns).
+    fn visit_rows(
+        mut self,
+        alloc: Global,
+        shape: (usize, usize),
+    ) -> Result<Vec<(Position, Place)>, LayoutError>
+        requires placed { (table : TableView) × (shape ≡ table.shape) × HasPlaced table 0 0 self }
+        ensures ok { IfOk result (λ places. (table : TableView) → shape ≡ table.shape →
+            HasPlaced table 0 0 self → HaveAllPlaces table places.items) }
         ensures err { IfErr result (λ error. (table : TableView) → shape ≡ table.shape →
-            HasPlaced table 0 0 self.old → ArePlacesRefused table error) }
+            HasPlaced table 0 0 self → ArePlacesRefused table error) }
     {
         let (rows, columns) = shape;
         for row in 0..rows {
             self.visit_row(alloc, row, columns)?;
         }
-        Ok(())
+        Ok(self.places)
     }
 }
 
@@ -159,7 +163,6 @@ pub fn places<D: Dimension>(
         // No position stands above or left of the first one.
         Err(PlaceError::Hidden) => unreachable!(),
     }
-    let mut placing = Placing::new(alloc, dimension, config, shape)?;
-    placing.visit_rows(alloc, shape)?;
-    Ok(placing.places)
+    let placing = Placing::new(alloc, dimension, config, shape)?;
+    placing.visit_rows(alloc, shape)
 }

@@ -16,6 +16,7 @@ use crate::both::solve_by;
 use crate::check::check;
 use crate::sizing::Sizing;
 use papergrid_config::SpannedConfig;
+use papergrid_maps::ConfigView;
 use papergrid_text::{IntoRecords, Records};
 use papergrid_tracks::{ByLeastTotal, ByShares, LayoutError, LayoutResult, Solved};
 use papergrid_values::{Direction, PerDirection, Position};
@@ -76,10 +77,10 @@ where
 }
 
 /// The cells that certify the sizes of the records along a direction, if any do.
-fn witness_along<R: Records + Drop>(
+fn witness_along<R: Records + Drop, S: ConfigView>(
     alloc: Global,
     records: R,
-    config: &SpannedConfig,
+    settings: &S,
     direction: Direction,
 ) -> Result<Option<Vec<Position>>, LayoutError>
 where
@@ -87,10 +88,10 @@ where
     requires { R.is_lawful records }
     ensures { UnlessMemory result (TellsRows R.tells records (λ cells.
         Answers IsCertificateOrNone
-        (problem_of (spanned_grid config.now) (line_measure R.Iter.Cell.text)
+        (problem_of (S.grid settings.now) (line_measure R.Iter.Cell.text)
         (R.columns records) cells direction) result)) }
 {
-    let found = solve_along::<ByShares, ByLines, _, _>(alloc, records, config, direction, true)?;
+    let found = solve_along::<ByShares, ByLines, _, _>(alloc, records, settings, direction, true)?;
     Ok(found.certificate)
 }
 
@@ -190,21 +191,21 @@ where
 }
 
 /// The cells that certify the least sizes of the records along a direction.
-fn certificate_along<R: Records + Drop>(
+fn certificate_along<R: Records + Drop, S: ConfigView>(
     alloc: Global,
     records: R,
-    config: &SpannedConfig,
+    settings: &S,
     direction: Direction,
 ) -> Result<Vec<Position>, LayoutError>
 where
     <<R as Records>::Iter as IntoRecords>::Cell: AsStr + Drop,
     requires { R.is_lawful records }
     ensures { UnlessMemory result (TellsRows R.tells records (λ cells.
-        IsLeastCertified (problem_of (spanned_grid config.now) (line_measure R.Iter.Cell.text)
+        IsLeastCertified (problem_of (S.grid settings.now) (line_measure R.Iter.Cell.text)
         (R.columns records) cells direction) result)) }
 {
     let found = solve_along::<ByLeastTotal, ByLines, _, _>(
-        alloc, records, config, direction, true,
+        alloc, records, settings, direction, true,
     )?;
     let certificate = found.certificate;
     match certificate {

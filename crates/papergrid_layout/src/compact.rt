@@ -11,12 +11,12 @@ ghost use Rattle.papergrid_layout.specs.Answers.{AreBothSized, UnlessMemory};
 ghost use Rattle.papergrid_text.specs.Records.{TellsRows};
 
 use crate::along::sizes_along;
-use crate::both::solve_both;
+use crate::both::{sizes_of, solve_both};
 use crate::dimension::{Dimension, Estimate};
 use papergrid_config::CompactConfig;
 use papergrid_text::{IntoRecords, Records};
 use papergrid_tracks::{ByShares, LayoutError, SizeList};
-use papergrid_values::{Direction, PerDirection};
+use papergrid_values::Direction;
 use papergrid_walk::measure::ByStdLines;
 use std::alloc::Global;
 use std::convert::AsStr;
@@ -111,8 +111,7 @@ impl CompactGridDimension {
             (R.columns records) cells result)) }
     {
         let found = solve_both::<ByShares, ByStdLines, _, _>(alloc, records, config, false)?;
-        let PerDirection { columns, rows } = found;
-        Ok((columns.sizes, rows.sizes))
+        Ok(sizes_of(found))
     }
 }
 

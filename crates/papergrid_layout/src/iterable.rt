@@ -16,6 +16,7 @@ pub use crate::certificates::{
 };
 use crate::dimension::{Dimension, Estimate};
 use papergrid_config::SpannedConfig;
+use papergrid_maps::ConfigView;
 use papergrid_text::{IntoRecords, Records};
 use papergrid_tracks::{ByShares, LayoutError, SizeList, replace_sizes};
 use papergrid_values::Direction;
@@ -154,20 +155,20 @@ impl IterGridDimension {
 }
 
 /// The total of the records along a direction: the sum of the sizes and of the lines.
-fn total_along<R: Records + Drop>(
+fn total_along<R: Records + Drop, S: ConfigView>(
     alloc: Global,
     records: R,
-    config: &SpannedConfig,
+    settings: &S,
     direction: Direction,
 ) -> Result<usize, LayoutError>
 where
     <<R as Records>::Iter as IntoRecords>::Cell: AsStr + Drop,
     requires { R.is_lawful records }
     ensures { UnlessMemory result (TellsRows R.tells records (λ cells.
-        Answers IsTotal (problem_of (spanned_grid config.now) (line_measure R.Iter.Cell.text)
+        Answers IsTotal (problem_of (S.grid settings.now) (line_measure R.Iter.Cell.text)
         (R.columns records) cells direction) result)) }
 {
-    let found = solve_along::<ByShares, ByLines, _, _>(alloc, records, config, direction, false)?;
+    let found = solve_along::<ByShares, ByLines, _, _>(alloc, records, settings, direction, false)?;
     Ok(found.total)
 }
 

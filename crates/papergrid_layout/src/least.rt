@@ -14,6 +14,7 @@ use crate::both::solve_both;
 pub use crate::certificates::{height_certificate, width_certificate};
 use crate::dimension::{Dimension, Estimate};
 use papergrid_config::SpannedConfig;
+use papergrid_maps::ConfigView;
 use papergrid_text::{IntoRecords, Records};
 use papergrid_tracks::{ByLeastTotal, LayoutError, SizeList, replace_sizes};
 use papergrid_values::Direction;
@@ -157,41 +158,42 @@ impl LeastGridDimension {
 }
 
 /// The least sizes of the records along a direction.
-fn sizes_along<R: Records + Drop>(
+fn sizes_along<R: Records + Drop, S: ConfigView>(
     alloc: Global,
     records: R,
-    config: &SpannedConfig,
+    settings: &S,
     direction: Direction,
 ) -> Result<Vec<usize>, LayoutError>
 where
     <<R as Records>::Iter as IntoRecords>::Cell: AsStr + Drop,
     requires { R.is_lawful records }
     ensures { UnlessMemory result (TellsRows R.tells records (λ cells.
-        IsLeastSized (problem_of (spanned_grid config.now) (line_measure R.Iter.Cell.text)
+        IsLeastSized (problem_of (S.grid settings.now) (line_measure R.Iter.Cell.text)
         (R.columns records) cells direction) result)) }
 {
-    solve_along::<ByLeastTotal, ByLines, _, _>(alloc, records, config, direction, false).map(
-        |found| found.sizes,
-    )
+    let found = solve_along::<ByLeastTotal, ByLines, _, _>(
+        alloc, records, settings, direction, false,
+    )?;
+    Ok(found.sizes)
 }
 
 /// The total of the records along a direction: the sum of the sizes and of the lines.
-fn total_along<R: Records + Drop>(
+fn total_along<R: Records + Drop, S: ConfigView>(
     alloc: Global,
     records: R,
-    config: &SpannedConfig,
+    settings: &S,
     direction: Direction,
 ) -> Result<usize, LayoutError>
 where
     <<R as Records>::Iter as IntoRecords>::Cell: AsStr + Drop,
     requires { R.is_lawful records }
     ensures { UnlessMemory result (TellsRows R.tells records (λ cells.
-        LeastAnswers IsLeastTotal (problem_of (spanned_grid config.now)
+        LeastAnswers IsLeastTotal (problem_of (S.grid settings.now)
         (line_measure R.Iter.Cell.text)
         (R.columns records) cells direction) result)) }
 {
     let found = solve_along::<ByLeastTotal, ByLines, _, _>(
-        alloc, records, config, direction, false,
+        alloc, records, settings, direction, false,
     )?;
     Ok(found.total)
 }

@@ -10,12 +10,12 @@ ghost use Rattle.papergrid_layout.specs.Answers.{AreBothSized, UnlessMemory};
 ghost use Rattle.papergrid_text.specs.Records.{TellsRows};
 
 use crate::along::sizes_along;
-use crate::both::solve_both;
+use crate::both::{sizes_of, solve_both};
 use crate::dimension::{Dimension, Estimate};
 use papergrid_config::SpannedConfig;
 use papergrid_text::{Cell, IntoRecords, Records};
 use papergrid_tracks::{ByShares, LayoutError, SizeList, replace_sizes};
-use papergrid_values::{Direction, PerDirection};
+use papergrid_values::Direction;
 use papergrid_walk::measure::ByCell;
 use std::alloc::Global;
 
@@ -114,8 +114,7 @@ impl PeekableGridDimension {
             (cell_measure R.Iter.Cell.width R.Iter.Cell.lines) (R.columns records) cells result)) }
     {
         let found = solve_both::<ByShares, ByCell, _, _>(alloc, records, config, false)?;
-        let PerDirection { columns, rows } = found;
-        Ok((columns.sizes, rows.sizes))
+        Ok(sizes_of(found))
     }
 
     /// The widths and the heights.

@@ -3,7 +3,6 @@
 ghost use Rattle.std.specs.Prelude.{◌≡◌, ◌+◌, ◌<◌, ◌≤◌, ◌↔◌, ◌⊎◌, ◌^◌, IsTrue, MatchOption};
 ghost use Rattle.papergrid_values.specs.declared.position.Position.{Position};
 ghost use Rattle.papergrid_layout.specs.Places.{IsFirstOver, StandsOver, offset, size_along, table_by, total};
-ghost use Rattle.papergrid_config.specs.Grids.{spanned_grid};
 ghost use Rattle.papergrid_layout.specs.ForProofs.Points.{LiesInEach};
 ghost use Rattle.papergrid_layout.specs.ForProofs.Rulers.{has_along};
 ghost use Rattle.papergrid_layout.specs.Tables.{HasSizes};
@@ -104,9 +103,9 @@ impl<'a, D: Dimension> Point<'a, D> {
 
 /// The track along a direction, of so many, from whose begin to that of the next one a point lies,
 /// if the total fits.
-fn track_around<D: Dimension>(
+fn track_around<D: Dimension, S: ConfigView>(
     dimension: &D,
-    config: &SpannedConfig,
+    settings: &S,
     direction: Direction,
     count: usize,
     point: usize,
@@ -115,13 +114,13 @@ fn track_around<D: Dimension>(
         direction) count }
     ensures { let size = size_along (D.width_of dimension.now)
         (D.height_of dimension.now) direction in
-        let line = (spanned_grid config.now).draws direction count in
+        let line = (S.grid settings.now).draws direction count in
         MatchOption result (total size line count < 2 ^ 64 →
         (point < offset size line 0) ⊎ (offset size line count ≤ point))
         (λ i. (total size line count < 2 ^ 64) × ((i < count) × (offset size line i ≤ point)
         × (point < offset size line (i + 1)))) }
 {
-    let ruler = Ruler::new(dimension, config, direction, count);
+    let ruler = Ruler::new(dimension, settings, direction, count);
     let _total = ruler.total()?;
     ruler.number_at(point)
 }

@@ -2,7 +2,6 @@
 
 ghost use Rattle.std.specs.Prelude.{◌≡◌, ◌+◌, ◌<◌, ◌^◌, IfOk, nat_le};
 ghost use Rattle.papergrid_values.specs.declared.direction.Direction.{Direction};
-ghost use Rattle.papergrid_config.specs.Grids.{spanned_grid};
 ghost use Rattle.papergrid_walk.specs.ForProofs.Shown.{Shows};
 ghost use Rattle.papergrid_layout.specs.Places.{TableView, total_along};
 ghost use Rattle.papergrid_layout.specs.ForProofs.Placing.{AreMarked};
@@ -10,7 +9,6 @@ ghost use Rattle.papergrid_layout.specs.ForProofs.Spanning.{AreSpanning, CoverIn
 
 use crate::marks::{Marks, place_of};
 use crate::rect::Place;
-use papergrid_config::SpannedConfig;
 use papergrid_maps::ConfigView;
 use papergrid_values::{PerDirection, Position};
 use papergrid_walk::Sweep;
@@ -77,22 +75,22 @@ impl Spanning {
 }
 
 /// The cells of a table whose totals fit that span several columns or rows, by row and then by column.
-pub fn spanning_cells(
+pub fn spanning_cells<S: ConfigView>(
     alloc: Global,
-    config: &SpannedConfig,
+    settings: &S,
     marks: &PerDirection<Marks>,
 ) -> Result<Vec<SpanningCell>, AllocError>
-    requires { (table : TableView) × (table.grid ≡ spanned_grid config.now)
+    requires { (table : TableView) × (table.grid ≡ S.grid settings.now)
         × AreMarked table marks.now.columns marks.now.rows
         × ((direction : Direction) → total_along table direction < 2 ^ 64) }
-    ensures { IfOk result (λ cells. (table : TableView) → table.grid ≡ spanned_grid config.now →
+    ensures { IfOk result (λ cells. (table : TableView) → table.grid ≡ S.grid settings.now →
         AreMarked table marks.now.columns marks.now.rows →
         ((direction : Direction) → total_along table direction < 2 ^ 64) →
         HaveAllSpanning table cells.items) }
 {
-    let anchors = ConfigView::anchors(config, alloc)?;
+    let anchors = settings.anchors(alloc)?;
     let mut found = Spanning {
-        sweep: sweep_of(alloc, config)?,
+        sweep: sweep_of(alloc, settings)?,
         reach: 0,
         cells: Vec::new(alloc),
     };

@@ -8,13 +8,13 @@ ghost use Rattle.papergrid_values.specs.declared.direction.Direction.TheVariants
 ghost use Rattle.papergrid_walk.specs.Measures.{line_measure};
 ghost use Rattle.papergrid_tracks.specs.declared.error.LayoutError.TheVariants.{TooLarge};
 ghost use Rattle.papergrid_layout.specs.Answers.{UnlessMemory, UnlessMemoryError};
-ghost use Rattle.papergrid_layout.specs.Places.{EndsWithin, HaveAllPlaces, IsFirstOver, IsTrackAt, StandsOver, place_at, total_along, track_count, track_line, track_size};
+ghost use Rattle.papergrid_layout.specs.Places.{EndsWithin, HaveAllPlaces, IsFirstOver, IsTrackAt, StandsOver, place_at, sized_table, total_along, track_count, track_line, track_size};
 ghost use Rattle.papergrid_layout.specs.Tables.{AreNotPlacedIn, IsPlacedIn, IsTable, IsTableOf, line_position, view_of};
 ghost use Rattle.papergrid_layout.specs.ForProofs.Tables.{IsMeasuredAlong};
 ghost use Rattle.papergrid_text.specs.Records.{TellsRows};
 
 use crate::along::count_of;
-use crate::both::solve_by;
+use crate::both::{sizes_of, solve_by};
 use crate::cell_rects::places;
 use crate::dimension::Dimension;
 use crate::marks::{Marks, place_of};
@@ -102,8 +102,9 @@ impl<'a> Table<'a> {
             IsTableOf config.now (line_measure R.Iter.Cell.text)
             (R.columns records) cells sizing result)) }
     {
-        let PerDirection { columns, rows } = solve_by(alloc, records, config, sizing, false)?;
-        Table::from_sizes(alloc, config, columns.sizes, rows.sizes)
+        let found = solve_by(alloc, records, config, sizing, false)?;
+        let (widths, heights) = sizes_of(found);
+        Table::from_sizes(alloc, config, widths, heights)
     }
 
     /// The table of these widths and heights, of any estimate or one's own.
@@ -341,22 +342,20 @@ impl<'a> Dimension for Table<'a> {
 /// # Errors
 ///
 /// `TooLarge` where the total is past the greatest `usize`; `Memory` in place of any answer.
-fn measured(
+fn measured<S: ConfigView>(
     alloc: Global,
-    config: &SpannedConfig,
+    settings: &S,
     sizes: &PerDirection<Vec<usize>>,
     direction: Direction,
 ) -> Result<(usize, Marks), LayoutError>
-    ensures { let table = view_of (record {
-      config = config.now;
-      widths = sizes.now.columns.items;
-      heights = sizes.now.rows.items;
-    }) in
+    ensures { let wide = sizes.now.columns.items in
+        let high = sizes.now.rows.items in
+        let table = sized_table (S.grid settings.now) wide high (length high, length wide) in
         MatchResult result (IsMeasuredAlong table direction)
         (λ e. UnlessMemoryError e ((e ≡ TooLarge) × (2 ^ 64 ≤ total_along table direction))) }
 {
     let count = count_of(direction, sizes.columns.len(), sizes.rows.len());
-    let ruler = Ruler::new(sizes, config, direction, count);
+    let ruler = Ruler::new(sizes, settings, direction, count);
     let Some(total) = ruler.total() else {
         return Err(LayoutError::TooLarge);
     };

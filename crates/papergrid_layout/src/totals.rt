@@ -10,13 +10,14 @@ ghost use Rattle.papergrid_layout.specs.Tables.{HasSizes};
 use crate::dimension::Dimension;
 use crate::ruler::Ruler;
 use papergrid_config::SpannedConfig;
+use papergrid_maps::ConfigView;
 use papergrid_tracks::LayoutError;
 use papergrid_values::Direction;
 
 /// The total along a direction, of so many tracks.
-fn total_along<D: Dimension>(
+fn total_along<D: Dimension, S: ConfigView>(
     dimension: &D,
-    config: &SpannedConfig,
+    settings: &S,
     direction: Direction,
     count: usize,
 ) -> Result<usize, LayoutError>
@@ -24,9 +25,9 @@ fn total_along<D: Dimension>(
         direction) count }
     ensures { let size = size_along (D.width_of dimension.now)
         (D.height_of dimension.now) direction in
-        IsTotalOf (total size ((spanned_grid config.now).draws direction count) count) result }
+        IsTotalOf (total size ((S.grid settings.now).draws direction count) count) result }
 {
-    let ruler = Ruler::new(dimension, config, direction, count);
+    let ruler = Ruler::new(dimension, settings, direction, count);
     ruler.total().ok_or(LayoutError::TooLarge)
 }
 

@@ -1,9 +1,24 @@
-use Rattle.std.proofs.Common.{◌∙◌, refl, sym}
+use Rattle.std.proofs.Common.{◌∙◌, inl, inr, refl, sym}
 use Rattle.std.proofs.lemmas.Bool.{false≢true}
-use Rattle.std.proofs.lemmas.Result.{err_from_is_err_and}
-use Rattle.papergrid_layout.specs.Places.{table_by}
-use Rattle.papergrid_layout.proofs.PlacingLemmas.{all-end-within, first-shown}
+use Rattle.std.specs.Prelude.{All}
+use Rattle.std.proofs.lemmas.Result.{IfErr-weaker, IfOk-weaker}
+use Rattle.papergrid_layout.specs.Places.{ArePlacesRefused, EndsWithin, HaveAllPlaces, table_by}
+use Rattle.papergrid_layout.proofs.PlacingLemmas.{all-end-within, first-shown, none-placed}
+use Rattle.papergrid_layout.proofs.cell_rects.places.Goals.{then-rows-eq0-via-else-rows-eq0+then-columns-eq0, then-rows-eq0-via-then-rows-eq0}
 use Rattle.papergrid_layout.proofs.cell_rects.places.Goals as goal
+
+pub returns-then-rows-eq0-clause-ok : goal.returns-then-rows-eq0-clause-ok
+returns-then-rows-eq0-clause-ok g c =
+    rw c.new.ensures.items (none-placed (table_by c.args.config.now (g.D.Dimension.width_of c.args.dimension.now) (g.D.Dimension.height_of c.args.dimension.now) c.args.shape)
+    (elim c.then-rows-eq0.branch [
+      | then-rows-eq0-via-then-rows-eq0 w ↦ inl w.if-rows-eq0.true
+      | then-rows-eq0-via-else-rows-eq0+then-columns-eq0 w ↦ inr w.if-columns-eq0.true
+    ]))
+
+pub returns-then-rows-eq0-clause-within : goal.returns-then-rows-eq0-clause-within
+returns-then-rows-eq0-clause-within g c =
+    all-end-within (table_by c.args.config.now (g.D.Dimension.width_of c.args.dimension.now) (g.D.Dimension.height_of c.args.dimension.now) c.args.shape)
+    _ (returns-then-rows-eq0-clause-ok g c)
 
 pub unreachable-requires : goal.unreachable-requires
 unreachable-requires g c =
@@ -14,18 +29,21 @@ visit_rows-requires g c =
     let table = table_by c.args.config.now (g.D.Dimension.width_of c.args.dimension.now) (g.D.Dimension.height_of c.args.dimension.now) c.args.shape in
     record { placed = (table, refl, c.in_ok-placing.ensures) }
 
-pub returns-in_err-visit_rows-clause-err : goal.returns-in_err-visit_rows-clause-err
-returns-in_err-visit_rows-clause-err g c =
+pub returns-clause-err : goal.returns-clause-err
+returns-clause-err g c =
     let table = table_by c.args.config.now (g.D.Dimension.width_of c.args.dimension.now) (g.D.Dimension.height_of c.args.dimension.now) c.args.shape in
-    let p = err_from_is_err_and c.from_residual-in_err-visit_rows.result c.from_residual-in_err-visit_rows.ensures.1 in
-    rw (p.1, p.2) (c.in_err-visit_rows.ensures.err table refl c.in_ok-placing.ensures)
+    IfErr-weaker c.visit_rows.result _ (ArePlacesRefused table) (λ error refused. refused table refl c.in_ok-placing.ensures) c.visit_rows.ensures.err
 
 pub returns-clause-ok : goal.returns-clause-ok
 returns-clause-ok g c =
     let table = table_by c.args.config.now (g.D.Dimension.width_of c.args.dimension.now) (g.D.Dimension.height_of c.args.dimension.now) c.args.shape in
-    c.in_ok-visit_rows.ensures.ok table refl c.in_ok-placing.ensures
+    IfOk-weaker c.visit_rows.result _ (λ places. HaveAllPlaces table places.items) (λ places have. have table refl c.in_ok-placing.ensures) c.visit_rows.ensures.ok
 
 pub returns-clause-within : goal.returns-clause-within
 returns-clause-within g c =
-    all-end-within (table_by c.args.config.now (g.D.Dimension.width_of c.args.dimension.now) (g.D.Dimension.height_of c.args.dimension.now) c.args.shape)
-    _ (returns-clause-ok g c)
+    let table = table_by c.args.config.now (g.D.Dimension.width_of c.args.dimension.now) (g.D.Dimension.height_of c.args.dimension.now) c.args.shape in
+    IfOk-weaker c.visit_rows.result (λ places. HaveAllPlaces table places.items) (λ places. All (λ x. EndsWithin table x.1) places.items)
+    (λ places have. all-end-within table places.items have) (returns-clause-ok g c)
+
+pub returns-clause-empty : goal.returns-clause-empty
+returns-clause-empty g c = λ empty. absurd (elim empty [ inl e ↦ c.if-rows-eq0.false e | inr e ↦ c.if-columns-eq0.false e ])

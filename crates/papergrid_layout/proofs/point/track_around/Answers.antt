@@ -1,6 +1,5 @@
 use Rattle.std.proofs.Common.{◌+◌, ◌<◌, ◌≤◌, ◌⊎◌}
 use Rattle.std.specs.Prelude.{◌^◌}
-use Rattle.papergrid_config.specs.Grids.{spanned_grid}
 use Rattle.papergrid_layout.specs.Places.{offset, size_along, total}
 use Rattle.papergrid_layout.proofs.PointLemmas.{where-fits}
 use Rattle.papergrid_layout.proofs.point.track_around.Goals as goal
@@ -19,7 +18,7 @@ number_at-requires-clause-sizes g c = rw c.new-ruler.ensures c.requires
 pub returns : goal.returns
 returns g c =
     let size = size_along (g.D.Dimension.width_of c.args.dimension.now) (g.D.Dimension.height_of c.args.dimension.now) c.args.direction in
-    let line = (spanned_grid c.args.config.now).draws c.args.direction c.args.count in
+    let line = (g.S.ConfigView.grid c.args.settings.now).draws c.args.direction c.args.count in
     let whole = rw c.new-ruler.ensures at c.in_ok-_total.ensures in
     where-fits c.number_at.result (total size line c.args.count < 2 ^ 64)
     ((c.args.point < offset size line 0) ⊎ (offset size line c.args.count ≤ c.args.point))

@@ -8,13 +8,13 @@ use Rattle.papergrid_layout.proofs.SpanningLemmas.{all-spanned, spanned-none, sp
 use Rattle.papergrid_layout.proofs.spanning.spanning_cells.Goals as goal
 
 pub loop-i-init : goal.loop-i-init
-loop-i-init c = λ table same marked fit.
+loop-i-init g c = λ table same marked fit.
     let walk = c.in_ok-sweep_of.field-0 in
     spanned-none table c.in_ok-anchors.anchors.items c.in_ok-anchors.ensures.sorted walk (record { sweep = walk; reach = 0; cells = c.new.result })
     (subst (λ grid. Shows grid walk 0 0) (sym same) c.in_ok-sweep_of.ensures) refl c.new.ensures.items
 
 pub visit-requires : goal.visit-requires
-visit-requires c =
+visit-requires g c =
     let anchors = c.in_ok-anchors.anchors.items in
     let within : c.loop-i.i < length anchors = omega (arith, c.len-i-end.ensures, c.loop-i-test.true) in
     let at : slice_get anchors c.loop-i.i ≡ Some c.index.result.now = slice_get-get_or anchors c.loop-i.i c.index.result.now within ∙ ap Some (sym c.index.ensures) in
@@ -22,7 +22,7 @@ visit-requires c =
     (c.requires.0, c.requires.2, c.requires.3, has.shows c.loop-i.i c.index.result.now (omega arith) at)
 
 pub loop-i-preserved : goal.loop-i-preserved
-loop-i-preserved c = λ table same marked fit.
+loop-i-preserved g c = λ table same marked fit.
     let anchors = c.in_ok-anchors.anchors.items in
     let within : c.loop-i.i < length anchors = omega (arith, c.len-i-end.ensures, c.loop-i-test.true) in
     let at : slice_get anchors c.loop-i.i ≡ Some c.index.result.now = slice_get-get_or anchors c.loop-i.i c.index.result.now within ∙ ap Some (sym c.index.ensures) in
@@ -32,7 +32,7 @@ loop-i-preserved c = λ table same marked fit.
     (c.in_ok-visit.ensures.step table marked shows) (c.in_ok-visit.ensures.later table shows) has
 
 pub returns : goal.returns
-returns c = λ table same marked fit.
+returns g c = λ table same marked fit.
     let anchors = c.in_ok-anchors.anchors.items in
     let last : c.loop-i.i ≡ length anchors = omega (arith, c.len-i-end.ensures, c.loop-i-test.false) in
     all-spanned table anchors c.in_ok-anchors.ensures.sorted c.loop-i.found (subst (λ grid. AreAnchorsOf grid anchors) (sym same) c.in_ok-anchors.ensures.shows)

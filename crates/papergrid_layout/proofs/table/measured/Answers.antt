@@ -2,8 +2,7 @@ use Rattle.std.proofs.Common.{◌≡◌, ℕ, ◌<◌, None, arith, length, refl
 use Rattle.papergrid_values.specs.declared.direction.Direction.{Direction}
 use Rattle.papergrid_values.specs.declared.direction.Direction.TheVariants.{Columns, Rows}
 use Rattle.papergrid_walk.specs.Cells.{count_along}
-use Rattle.papergrid_layout.specs.Places.{total_along}
-use Rattle.papergrid_layout.specs.Tables.{view_of}
+use Rattle.papergrid_layout.specs.Places.{sized_table, total_along}
 use Rattle.papergrid_layout.specs.ForProofs.Rulers.{has_along}
 use Rattle.papergrid_layout.proofs.PlaceSums.{too-large}
 use Rattle.papergrid_layout.proofs.table.measured.Goals as goal
@@ -14,32 +13,32 @@ has-size Columns columns rows i l = l
 has-size Rows columns rows i l = l
 
 pub total-requires : goal.total-requires
-total-requires c =
+total-requires g c =
     let sizes = c.args.sizes.now in
     let wide : c.len.result ≡ length sizes.columns.items = omega (arith, c.len.ensures) in
     let high : c.len-2.result ≡ length sizes.rows.items = omega (arith, c.len-2.ensures) in
     rw (c.new-ruler.ensures, c.count_of-count.ensures, wide, high) (has-size c.args.direction _ _)
 
 pub returns-in_default : goal.returns-in_default
-returns-in_default c =
+returns-in_default g c =
     let sizes = c.args.sizes.now in
     let wide : c.len.result ≡ length sizes.columns.items = omega (arith, c.len.ensures) in
     let high : c.len-2.result ≡ length sizes.rows.items = omega (arith, c.len-2.ensures) in
-    let table = view_of (record { config = c.args.config.now; widths = sizes.columns.items; heights = sizes.rows.items }) in
+    let table = sized_table (g.S.ConfigView.grid c.args.settings.now) sizes.columns.items sizes.rows.items (length sizes.rows.items, length sizes.columns.items) in
     (refl, too-large {T = ℕ} None (total_along table c.args.direction) 0 refl (rw (c.new-ruler.ensures, c.count_of-count.ensures, wide, high) at c.in_default.ensures))
 
 pub marks-requires-clause-sizes : goal.marks-requires-clause-sizes
-marks-requires-clause-sizes c =
+marks-requires-clause-sizes g c =
     let sizes = c.args.sizes.now in
     let wide : c.len.result ≡ length sizes.columns.items = omega (arith, c.len.ensures) in
     let high : c.len-2.result ≡ length sizes.rows.items = omega (arith, c.len-2.ensures) in
     rw (c.new-ruler.ensures, c.count_of-count.ensures, wide, high) (has-size c.args.direction _ _)
 
 pub marks-requires-clause-fits : goal.marks-requires-clause-fits
-marks-requires-clause-fits c = c.in-Some.ensures.0
+marks-requires-clause-fits g c = c.in-Some.ensures.0
 
 pub returns : goal.returns
-returns c =
+returns g c =
     let sizes = c.args.sizes.now in
     let wide : c.len.result ≡ length sizes.columns.items = omega (arith, c.len.ensures) in
     let high : c.len-2.result ≡ length sizes.rows.items = omega (arith, c.len-2.ensures) in

@@ -1,5 +1,5 @@
 use Rattle.papergrid_values.specs.declared.direction.Direction.TheVariants.{Columns, Rows}
-use Rattle.papergrid_layout.specs.Places.{table_by}
+use Rattle.papergrid_layout.specs.Places.{table_view_of}
 use Rattle.papergrid_layout.proofs.PlacingLemmas.{placed-none}
 use Rattle.papergrid_layout.proofs.cell_rects.Placing.new.Goals as goal
 
@@ -17,7 +17,7 @@ marks-requires-2-clause-fits g c = rw c.new-down.ensures (c.requires.fit Rows)
 
 pub returns : goal.returns
 returns g c =
-    let table = table_by c.args.config.now (g.D.Dimension.width_of c.args.dimension.now) (g.D.Dimension.height_of c.args.dimension.now) c.args.shape in
+    let table = table_view_of (g.S.ConfigView.grid c.args.settings.now) (g.D.Dimension.width_of c.args.dimension.now) (g.D.Dimension.height_of c.args.dimension.now) c.args.shape in
     record {
       fit = c.requires.fit;
       marked = record { wide = rw c.new-across.ensures at c.in_ok-marks.ensures; high = rw c.new-down.ensures at c.in_ok-marks-2.ensures };
