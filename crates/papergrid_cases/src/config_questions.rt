@@ -29,7 +29,7 @@ pub fn ask(
 }
 
 fn ask_flags(config: &SpannedConfig, word: &str, words: &mut Words<'_>, answer: &mut Answer) {
-    answer.flag(match word {
+    let flag = match word {
         "has_border_colors" => config.has_border_colors(),
         "has_offset_chars" => config.has_offset_chars(),
         "has_justification" => config.has_justification(),
@@ -45,7 +45,8 @@ fn ask_flags(config: &SpannedConfig, word: &str, words: &mut Words<'_>, answer: 
         "column_spans_end_within" => config.spans_end_within(Direction::Columns, words.number()),
         "row_spans_end_within" => config.spans_end_within(Direction::Rows, words.number()),
         _ => return ask_table(config, word, words, answer),
-    });
+    };
+    answer.flag(flag);
 }
 
 fn ask_table(config: &SpannedConfig, word: &str, words: &mut Words<'_>, answer: &mut Answer) {
@@ -122,7 +123,7 @@ fn ask_cell_flags(
     words: &mut Words<'_>,
     answer: &mut Answer,
 ) {
-    answer.flag(match word {
+    let flag = match word {
         "get_trim_horizonal" => config.get_trim_horizonal(position),
         "get_trim_vertical" => config.get_trim_vertical(position),
         "get_line_alignment" => config.get_line_alignment(position),
@@ -133,7 +134,8 @@ fn ask_cell_flags(
         "is_cell_covered_by_row_span" => config.is_cell_covered_by_row_span(position),
         "is_cell_covered_by_both_spans" => config.is_cell_covered_by_both_spans(position),
         _ => return ask_lines(config, word, position, words, answer),
-    });
+    };
+    answer.flag(flag);
 }
 
 fn ask_lines(

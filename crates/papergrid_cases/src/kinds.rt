@@ -76,13 +76,14 @@ fn ask_borders(table: &BorderTable<char>, word: &str, words: &mut Words<'_>, ans
 
 /// Answers a question on which parts of lines are set.
 fn ask_lines(table: &BorderTable<char>, word: &str, words: &mut Words<'_>, answer: &mut Answer) {
-    answer.flag(match word {
+    let flag = match word {
         "has_vertical" => table.has_vertical(words.number(), words.number()),
         "has_horizontal" => table.has_horizontal(words.number(), words.number()),
         "is_vertical_set" => table.is_vertical_set(words.number(), words.number()),
         "is_horizontal_set" => table.is_horizontal_set(words.number(), words.number()),
         _ => return words.lacks("a question"),
-    });
+    };
+    answer.flag(flag);
 }
 
 impl Kind for OffsetTable<char> {
@@ -162,7 +163,7 @@ impl Kind for SpanTable {
 
 /// Answers a question whose answer is true or false.
 fn ask_flags(spans: &SpanTable, word: &str, words: &mut Words<'_>, answer: &mut Answer) {
-    answer.flag(match word {
+    let flag = match word {
         "has_columns" => spans.has_columns(),
         "has_rows" => spans.has_rows(),
         "covered_by_column" => spans.covered_by_column(words.position()),
@@ -172,7 +173,8 @@ fn ask_flags(spans: &SpanTable, word: &str, words: &mut Words<'_>, answer: &mut 
         "end_within" => spans.end_within(words.direction(), words.number()),
         "are_visible" => are_visible(spans, words),
         _ => return words.lacks("a question"),
-    });
+    };
+    answer.flag(flag);
 }
 
 /// Whether two positions are visible, of which the second stands below the first and right of it.

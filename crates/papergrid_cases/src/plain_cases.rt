@@ -46,20 +46,24 @@ impl Subject for PlainCases {
 
 /// A number of 32 bits.
 fn narrow(words: &mut Words<'_>) -> i32 {
-    let number = words.word().parse::<i32>().ok();
-    if number.is_none() {
-        words.lacks("a number of 32 bits");
+    match words.word().parse::<i32>() {
+        Ok(number) => number,
+        Err(_) => {
+            words.lacks("a number of 32 bits");
+            0
+        }
     }
-    number.unwrap_or(0)
 }
 
 /// A number of 64 bits.
 fn wide(words: &mut Words<'_>) -> i64 {
-    let number = words.word().parse::<i64>().ok();
-    if number.is_none() {
-        words.lacks("a number of 64 bits");
+    match words.word().parse::<i64>() {
+        Ok(number) => number,
+        Err(_) => {
+            words.lacks("a number of 64 bits");
+            0
+        }
     }
-    number.unwrap_or(0)
 }
 
 /// The positions of an entity in a table of so many rows and columns; `more` where the walk goes on after its end.

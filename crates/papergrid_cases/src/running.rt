@@ -79,8 +79,9 @@ fn run_line<S: Subject>(
     report: &mut Report,
 ) {
     let (said, wanted) = parts_of(line);
-    let came = followed(rt.alloc(), subject, said, wanted.is_some());
-    report.answers = report.answers.saturating_add(usize::from(wanted.is_some()));
+    let is_asked = wanted.is_some();
+    let came = followed(rt.alloc(), subject, said, is_asked);
+    report.answers = report.answers.saturating_add(usize::from(is_asked));
     // A line that is no question wants no answer.
     if !came.is(wanted.unwrap_or("")) {
         report.is_right = false;

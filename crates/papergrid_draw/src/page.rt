@@ -70,11 +70,11 @@ pub fn vertical_lines(alloc: Global, table: &Table<'_>) -> Result<Vec<bool>, All
 
 impl<'a> Frame<'a> {
     /// That of a table with these vertical lines.
-    pub fn new(table: &'a Table<'a>, config: &'a SpannedConfig, verticals: Vec<bool>) -> Frame<'a>
-        requires config { config.now ≡ table.now.config }
-        requires verticals { AreVerticals table.now verticals.items }
+    pub fn new(table: &'a Table<'a>, verticals: Vec<bool>) -> Frame<'a>
+        requires { AreVerticals table.now verticals.items }
         ensures { IsFrame table.now result }
     {
+        let config = table.config();
         Frame {
             table,
             config,

@@ -37,8 +37,18 @@ pub fn place<D: Dimension>(
         IfOk result (EndsWithin table) }
 {
     let (rows, columns) = shape;
-    let across = Ruler::new(dimension, config, Direction::Columns, columns);
-    let down = Ruler::new(dimension, config, Direction::Rows, rows);
+    let across = Ruler {
+        dimension,
+        settings: config,
+        direction: Direction::Columns,
+        count: columns,
+    };
+    let down = Ruler {
+        dimension,
+        settings: config,
+        direction: Direction::Rows,
+        count: rows,
+    };
     if !config.is_visible(position) {
         return Err(PlaceError::Hidden);
     }

@@ -47,8 +47,18 @@ impl Placing {
             IfOk result (HasPlaced table 0 0) }
     {
         let (rows, columns) = shape;
-        let across = Ruler::new(dimension, settings, Direction::Columns, columns);
-        let down = Ruler::new(dimension, settings, Direction::Rows, rows);
+        let across = Ruler {
+            dimension,
+            settings,
+            direction: Direction::Columns,
+            count: columns,
+        };
+        let down = Ruler {
+            dimension,
+            settings,
+            direction: Direction::Rows,
+            count: rows,
+        };
         Ok(Placing {
             marks: PerDirection {
                 columns: across.marks(alloc)?,

@@ -120,7 +120,12 @@ fn track_around<D: Dimension, S: ConfigView>(
         (λ i. (total size line count < 2 ^ 64) × ((i < count) × (offset size line i ≤ point)
         × (point < offset size line (i + 1)))) }
 {
-    let ruler = Ruler::new(dimension, settings, direction, count);
+    let ruler = Ruler {
+        dimension,
+        settings,
+        direction,
+        count,
+    };
     let _total = ruler.total()?;
     ruler.number_at(point)
 }

@@ -25,28 +25,6 @@ pub struct Ruler<'a, D, S> {
 }
 
 impl<'a, D: Dimension, S: ConfigView> Ruler<'a, D, S> {
-    /// Of so many tracks, by these sizes and settings.
-    pub fn new(
-        dimension: &'a D,
-        settings: &'a S,
-        direction: Direction,
-        count: usize,
-    ) -> Ruler<'a, D, S>
-        ensures { result ≡ record {
-          dimension = dimension.entry;
-          settings = settings.entry;
-          direction = direction;
-          count = count;
-        } }
-    {
-        Ruler {
-            dimension,
-            settings,
-            direction,
-            count,
-        }
-    }
-
     /// The width of a column, or the height of a row.
     fn size(&self, i: usize) -> usize
         requires { has_along (D.has_column self.now.dimension.now)

@@ -355,7 +355,12 @@ fn measured<S: ConfigView>(
         (λ e. UnlessMemoryError e ((e ≡ TooLarge) × (2 ^ 64 ≤ total_along table direction))) }
 {
     let count = count_of(direction, sizes.columns.len(), sizes.rows.len());
-    let ruler = Ruler::new(sizes, settings, direction, count);
+    let ruler = Ruler {
+        dimension: sizes,
+        settings,
+        direction,
+        count,
+    };
     let Some(total) = ruler.total() else {
         return Err(LayoutError::TooLarge);
     };

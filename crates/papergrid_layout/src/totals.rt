@@ -27,7 +27,12 @@ fn total_along<D: Dimension, S: ConfigView>(
         (D.height_of dimension.now) direction in
         IsTotalOf (total size ((S.grid settings.now).draws direction count) count) result }
 {
-    let ruler = Ruler::new(dimension, settings, direction, count);
+    let ruler = Ruler {
+        dimension,
+        settings,
+        direction,
+        count,
+    };
     ruler.total().ok_or(LayoutError::TooLarge)
 }
 

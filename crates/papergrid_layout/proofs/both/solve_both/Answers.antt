@@ -4,6 +4,12 @@ use Rattle.papergrid_layout.specs.Answers.{AnswersBothWhere}
 use Rattle.papergrid_layout.proofs.AnswerLemmas.{unless}
 use Rattle.papergrid_layout.proofs.both.solve_both.Goals as goal
 
+pub conclude-requires : goal.conclude-requires
+conclude-requires g c =
+    let grid = g.S.ConfigView.grid c.args.settings.now in
+    let found = c.in_ok-both.ensures in
+    (found.0, found.2.1, subst (λ n. AreBothGathered grid g.M.Measure.measured n found.0 c.in_ok-both.both) (sym c.count_columns-columns.ensures) found.2.0)
+
 pub returns : goal.returns
 returns g c =
     let grid = g.S.ConfigView.grid c.args.settings.now in

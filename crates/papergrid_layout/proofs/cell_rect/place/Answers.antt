@@ -6,32 +6,32 @@ use Rattle.papergrid_layout.proofs.PlaceSums.{has-place, is-inside, too-large, w
 use Rattle.papergrid_layout.proofs.cell_rect.place.Goals as goal
 
 pub part-requires-clause-sizes : goal.part-requires-clause-sizes
-part-requires-clause-sizes g c = rw c.new-across.ensures c.requires.columns
+part-requires-clause-sizes g c = c.requires.columns
 
 pub part-requires-2-clause-sizes : goal.part-requires-2-clause-sizes
-part-requires-2-clause-sizes g c = rw c.new-down.ensures c.requires.rows
+part-requires-2-clause-sizes g c = c.requires.rows
 
 pub returns-in_default-clause-exact : goal.returns-in_default-clause-exact
 returns-in_default-clause-exact g c = (
   is-inside (table_by c.args.config.now (g.D.Dimension.width_of c.args.dimension.now) (g.D.Dimension.height_of c.args.dimension.now) c.args.shape) c.args.position (sym c.if-not-is_visible.ensures)
-      (rw c.new-across.ensures at c.if-overflows.ensures) (rw c.new-down.ensures at c.if-overflows-2.ensures),
-  inr (too-large c.part-2.result _ _ c.in_default.is-1 (rw c.new-down.ensures at c.part-2.ensures)),
+      c.if-overflows.ensures c.if-overflows-2.ensures,
+  inr (too-large c.part-2.result _ _ c.in_default.is-1 c.part-2.ensures),
 )
 
 pub returns-in_default-2-clause-exact : goal.returns-in_default-2-clause-exact
 returns-in_default-2-clause-exact g c = (
   is-inside (table_by c.args.config.now (g.D.Dimension.width_of c.args.dimension.now) (g.D.Dimension.height_of c.args.dimension.now) c.args.shape) c.args.position (sym c.if-not-is_visible.ensures)
-      (rw c.new-across.ensures at c.if-overflows.ensures) (rw c.new-down.ensures at c.if-overflows-2.ensures),
-  inl (too-large c.part.result _ _ c.in_default.is-0 (rw c.new-across.ensures at c.part.ensures)),
+      c.if-overflows.ensures c.if-overflows-2.ensures,
+  inl (too-large c.part.result _ _ c.in_default.is-0 c.part.ensures),
 )
 
 pub returns-in-Some-Some-clause-within : goal.returns-in-Some-Some-clause-within
 returns-in-Some-Some-clause-within g c =
     let grid = spanned_grid c.args.config.now in
-    let across = rw c.new-across.ensures at c.in-Some-Some.ensures in
-    let down = rw c.new-down.ensures at c.in-Some-Some.ensures' in
-    let inside = rw c.new-across.ensures at c.if-overflows.ensures in
-    let over = rw c.new-down.ensures at c.if-overflows-2.ensures in (
+    let across = c.in-Some-Some.ensures in
+    let down = c.in-Some-Some.ensures' in
+    let inside = c.if-overflows.ensures in
+    let over = c.if-overflows-2.ensures in (
       within-total (g.D.Dimension.width_of c.args.dimension.now) (grid.draws Columns c.args.shape.1) c.args.position.col (grid.span Columns c.args.position) c.args.shape.1
           c.in-Some-Some.left c.in-Some-Some.width across.1 inside,
       within-total (g.D.Dimension.height_of c.args.dimension.now) (grid.draws Rows c.args.shape.0) c.args.position.row (grid.span Rows c.args.position) c.args.shape.0
@@ -42,5 +42,5 @@ pub returns-in-Some-Some-clause-exact : goal.returns-in-Some-Some-clause-exact
 returns-in-Some-Some-clause-exact g c =
     has-place (table_by c.args.config.now (g.D.Dimension.width_of c.args.dimension.now) (g.D.Dimension.height_of c.args.dimension.now) c.args.shape) c.args.position
     c.in-Some-Some.left c.in-Some-Some.top c.in-Some-Some.width c.in-Some-Some.height
-    (sym c.if-not-is_visible.ensures) (rw c.new-across.ensures at c.if-overflows.ensures) (rw c.new-down.ensures at c.if-overflows-2.ensures)
-    (rw c.new-across.ensures at c.in-Some-Some.ensures) (rw c.new-down.ensures at c.in-Some-Some.ensures')
+    (sym c.if-not-is_visible.ensures) c.if-overflows.ensures c.if-overflows-2.ensures
+    c.in-Some-Some.ensures c.in-Some-Some.ensures'

@@ -1,3 +1,5 @@
+use Rattle.std.proofs.Common.{arith, inl, inr}
+use Rattle.std.proofs.lemmas.Bool.{false≢true}
 use Rattle.papergrid_tracks.proofs.CandidateLemmas.{rising-from_order}
 use Rattle.papergrid_layout.proofs.check.check.Goals as goal
 
@@ -14,3 +16,12 @@ returns-then-not-are_visible g c = c.refuse-then-not-are_visible.ensures
 
 pub returns : goal.returns
 returns g c = c.check_candidate.ensures
+
+pub refuse-requires-clause-reason : goal.refuse-requires-clause-reason
+refuse-requires-clause-reason g c = inl (omega arith)
+
+pub refuse-requires-then-not-are_visible-clause-reason : goal.refuse-requires-then-not-are_visible-clause-reason
+refuse-requires-then-not-are_visible-clause-reason g c = inr (λ shown. false≢true (c.if-not-are_visible.ensures.1 shown))
+
+pub check_candidate-requires-clause-ordered : goal.check_candidate-requires-clause-ordered
+check_candidate-requires-clause-ordered g c = record { ordered = c.are_in_order-is_ordered.ensures.0; within = c.spans_end_within.ensures }

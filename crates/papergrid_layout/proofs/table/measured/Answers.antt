@@ -17,7 +17,7 @@ total-requires g c =
     let sizes = c.args.sizes.now in
     let wide : c.len.result ≡ length sizes.columns.items = omega (arith, c.len.ensures) in
     let high : c.len-2.result ≡ length sizes.rows.items = omega (arith, c.len-2.ensures) in
-    rw (c.new-ruler.ensures, c.count_of-count.ensures, wide, high) (has-size c.args.direction _ _)
+    rw (c.count_of-count.ensures, wide, high) (has-size c.args.direction _ _)
 
 pub returns-in_default : goal.returns-in_default
 returns-in_default g c =
@@ -25,14 +25,14 @@ returns-in_default g c =
     let wide : c.len.result ≡ length sizes.columns.items = omega (arith, c.len.ensures) in
     let high : c.len-2.result ≡ length sizes.rows.items = omega (arith, c.len-2.ensures) in
     let table = sized_table (g.S.ConfigView.grid c.args.settings.now) sizes.columns.items sizes.rows.items (length sizes.rows.items, length sizes.columns.items) in
-    (refl, too-large {T = ℕ} None (total_along table c.args.direction) 0 refl (rw (c.new-ruler.ensures, c.count_of-count.ensures, wide, high) at c.in_default.ensures))
+    (refl, too-large {T = ℕ} None (total_along table c.args.direction) 0 refl (rw (c.count_of-count.ensures, wide, high) at c.in_default.ensures))
 
 pub marks-requires-clause-sizes : goal.marks-requires-clause-sizes
 marks-requires-clause-sizes g c =
     let sizes = c.args.sizes.now in
     let wide : c.len.result ≡ length sizes.columns.items = omega (arith, c.len.ensures) in
     let high : c.len-2.result ≡ length sizes.rows.items = omega (arith, c.len-2.ensures) in
-    rw (c.new-ruler.ensures, c.count_of-count.ensures, wide, high) (has-size c.args.direction _ _)
+    rw (c.count_of-count.ensures, wide, high) (has-size c.args.direction _ _)
 
 pub marks-requires-clause-fits : goal.marks-requires-clause-fits
 marks-requires-clause-fits g c = c.in-Some.ensures.0
@@ -42,5 +42,5 @@ returns g c =
     let sizes = c.args.sizes.now in
     let wide : c.len.result ≡ length sizes.columns.items = omega (arith, c.len.ensures) in
     let high : c.len-2.result ≡ length sizes.rows.items = omega (arith, c.len-2.ensures) in
-    let found = rw (c.new-ruler.ensures, c.count_of-count.ensures, wide, high) at c.in-Some.ensures in
-    (found.0, found.1, rw (c.new-ruler.ensures, c.count_of-count.ensures, wide, high) at c.in_ok-marks.ensures)
+    let found = rw (c.count_of-count.ensures, wide, high) at c.in-Some.ensures in
+    (found.0, found.1, rw (c.count_of-count.ensures, wide, high) at c.in_ok-marks.ensures)

@@ -7,11 +7,11 @@ use Rattle.papergrid_draw.proofs.page.Frame.new.Goals as goal
 pub returns : goal.returns
 returns c = record {
   table = refl;
-  config = c.requires.config;
+  config = c.config-config.ensures;
   shape = c.shape.ensures;
   high = c.height.ensures;
   fit = subst (λ n. n < 2 ^ 64) c.height.ensures c.height.type_inv;
-  looks = subst (λ (s : SpannedConfig). IsLookedUp s c.new.result) c.requires.config c.new.ensures;
-  many = c.requires.verticals.many;
-  verticals = c.requires.verticals.each;
+  looks = subst (λ (s : SpannedConfig). IsLookedUp s c.new.result) c.config-config.ensures c.new.ensures;
+  many = c.requires.many;
+  verticals = c.requires.each;
 }
