@@ -11,7 +11,7 @@ ghost use Rattle.papergrid_draw.specs.Contents.{block_at, lines_of};
 ghost use Rattle.papergrid_draw.specs.Drawings.{layout_of};
 ghost use Rattle.papergrid_draw.specs.Drawn.{column_pieces, column_stretch, crossing_stretch, draws_horizontal, owner_at, rule_line, text_line, vertical_pieces};
 ghost use Rattle.papergrid_draw.specs.Tiles.{IsTiled};
-ghost use Rattle.papergrid_draw.specs.ForProofs.Pages.{AreSlotsSet, AreSlots, IsFrame, IsSlot, Texts, drawing_of, row_start, text_start};
+ghost use Rattle.papergrid_draw.specs.ForProofs.Pages.{AreSlotsSet, AreSlots, AreVerticals, IsFrame, IsSlot, Texts, drawing_of, row_start, text_start};
 ghost use Rattle.papergrid_draw.specs.ForProofs.Pens.{AddsStretches, stretches_over};
 
 use crate::block::Block;
@@ -57,31 +57,32 @@ impl Drop for Frame<'_> {
     }
 }
 
+/// Whether a vertical line stands before each column of a table, and after the last.
+pub fn vertical_lines(alloc: Global, table: &Table<'_>) -> Result<Vec<bool>, AllocError>
+    ensures { IfOk result (λ lines. AreVerticals table.now lines.items) }
+{
+    let mut lines = Vec::new(alloc);
+    for col in 0..=table.shape().1 {
+        lines.push(table.vertical_at(col).is_some())?;
+    }
+    Ok(lines)
+}
+
 impl<'a> Frame<'a> {
-    /// That of a table.
-    pub fn new(
-        alloc: Global,
-        table: &'a Table<'a>,
-        config: &'a SpannedConfig,
-    ) -> Result<Frame<'a>, AllocError>
-        requires { config.now ≡ table.now.config }
-        ensures { IfOk result (IsFrame table.now) }
+    /// That of a table with these vertical lines.
+    pub fn new(table: &'a Table<'a>, verticals: Vec<bool>) -> Frame<'a>
+        requires { AreVerticals table.now verticals.items }
+        ensures { IsFrame table.now result }
     {
-        let shape = table.shape();
-        let mut verticals = Vec::new(alloc);
-        for j in 0..=shape.1 {
-            verticals.push(table.vertical_at(j).is_some())?;
-        }
-        let height = table.height();
-        let looks = Looks::new(config);
-        Ok(Frame {
+        let config = table.config();
+        Frame {
             table,
             config,
-            shape,
-            height,
-            looks,
+            shape: table.shape(),
+            height: table.height(),
+            looks: Looks::new(config),
             verticals,
-        })
+        }
     }
 
     /// The owner of a position, by the cells that cover the columns of the row above, and of its own row before it.

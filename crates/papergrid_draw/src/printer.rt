@@ -18,7 +18,7 @@ ghost use Rattle.papergrid_draw.specs.declared.error.DrawError.TheVariants.{Memo
 
 use crate::delivery::{Delivery, ToSink, ToText};
 use crate::error::DrawError;
-use crate::page::Frame;
+use crate::page::{Frame, vertical_lines};
 use crate::plain::is_plain;
 use crate::plain_rows::draw_plain_rows;
 use crate::room::{Room, find_room};
@@ -148,9 +148,9 @@ where
         Draws D.takes D.breaks d writer.old writer.new
         (join_with_byte 10 (printed_lines d)) result }
 {
-    let config = table.config();
-    check_tiles(alloc, config, table.shape())?;
-    let frame = Frame::new(alloc, table, config)?;
+    check_tiles(alloc, table.config(), table.shape())?;
+    let verticals = vertical_lines(alloc, table)?;
+    let frame = Frame::new(table, verticals);
     draw_tiled::<S, D, W>(alloc, &frame, cells, room, writer)
 }
 
@@ -195,11 +195,9 @@ where
         result }
 {
     let config = frame.config;
-    let (margin, color, offset) = (
-        config.get_margin(),
-        config.get_margin_color(),
-        config.get_margin_offset(),
-    );
+    let margin = config.get_margin();
+    let color = config.get_margin_color();
+    let offset = config.get_margin_offset();
     let mut sheet = Sheet::new(alloc);
     draw_margin::<D, W>(
         &mut sheet,

@@ -143,11 +143,9 @@ pub fn begin_beside(frame: &Frame<'_>, sheet: &mut Sheet) -> Result<(), AllocErr
     ensures begun { sheet.new.begun ≡ sheet.old.begun }
 {
     sheet.begin()?;
-    let (margin, color, offset) = (
-        frame.config.get_margin(),
-        frame.config.get_margin_color(),
-        frame.config.get_margin_offset(),
-    );
+    let margin = frame.config.get_margin();
+    let color = frame.config.get_margin_color();
+    let offset = frame.config.get_margin_offset();
     let y = sheet.written;
     push_beside(
         &mut sheet.line,
@@ -173,11 +171,9 @@ pub fn end_beside<D: Delivery<W>, W>(
     ensures written { OnOk result (sheet.new.written ≡ sheet.old.written + 1) }
     ensures begun { OnOk result (sheet.new.begun ≡ true) }
 {
-    let (margin, color, offset) = (
-        frame.config.get_margin(),
-        frame.config.get_margin_color(),
-        frame.config.get_margin_offset(),
-    );
+    let margin = frame.config.get_margin();
+    let color = frame.config.get_margin_color();
+    let offset = frame.config.get_margin_offset();
     let y = sheet.written;
     push_beside(
         &mut sheet.line,

@@ -27,6 +27,12 @@ drawing_of parts texts = record {
   color = texts.color;
 }
 
+-- whether a vertical line is drawn before each column, and after the last
+pub record AreVerticals (parts : TableParts) (lines : List Bool) : Type 0 where
+  pub many : length lines ≡ length parts.widths + 1
+  pub each : (texts : Texts) (j : ℕ) (other : Bool) → j ≤ length parts.widths →
+      slice_index_or lines j other ≡ draws_vertical (drawing_of parts texts) j
+
 -- what is read of a table once
 pub record IsFrame (parts : TableParts) (frame : Frame) : Type 0 where
   pub table : frame.table.now ≡ parts

@@ -1,4 +1,4 @@
-use Rattle.std.proofs.Common.{◌≡◌, ◌<◌, Ok, subst, ap, arith, slice_index}
+use Rattle.std.proofs.Common.{◌≡◌, ◌<◌, Ok, length, subst, sym, ap, arith, slice_index}
 use Rattle.std.proofs.lemmas.Result.{err_from_is_err_and}
 use Rattle.papergrid_layout.specs.Tables.{TableParts}
 use Rattle.papergrid_draw.specs.ForProofs.Pages.{drawing_of}
@@ -6,6 +6,11 @@ use Rattle.papergrid_draw.specs.ForProofs.Sheets.{AtText, WritesLines, margined,
 use Rattle.papergrid_draw.proofs.SheetLemmas.{lines-none}
 use Rattle.papergrid_draw.proofs.PrinterLemmas.{text_lines-cut, text_lines-next}
 use Rattle.papergrid_draw.proofs.rows.draw_text_lines.Goals as goal
+
+pub get_height-k-end-requires : goal.get_height-k-end-requires
+get_height-k-end-requires g c =
+    let at = c.requires.2 in
+    subst (λ (t : TableParts). c.args.row < length t.heights) (sym at.frame_is.table) at.row_in
 
 pub loop-k-init : goal.loop-k-init
 loop-k-init g c = λ parts texts at. record { comes = at; lines = lines-none g.D.Delivery.takes g.D.Delivery.breaks _ _ tt }
@@ -26,6 +31,9 @@ returns-in_err-draw_text_line-clause-lines g c =
     omega (arith, c.get_height-k-end.ensures, ap (λ (t : TableParts). slice_index t.heights c.args.row) at.frame_is.table) in
     text_lines-cut (drawing_of parts texts) g.D.Delivery.takes g.D.Delivery.breaks _ _ _ _ _ _ _ c.args.sheet.now.written c.loop-k.sheet.written c.args.row c.loop-k.k (slice_index parts.heights c.args.row) tt _
     (omega (arith, at.written, now.comes.written)) below now.lines (c.in_err-draw_text_line.ensures.lines parts texts now.comes))
+
+pub returns-in_err-draw_text_line-clause-kept : goal.returns-in_err-draw_text_line-clause-kept
+returns-in_err-draw_text_line-clause-kept g c = rw (err_from_is_err_and c.from_residual.result c.from_residual.ensures.1).1 tt
 
 pub loop-k-preserved : goal.loop-k-preserved
 loop-k-preserved g c = λ parts texts at.

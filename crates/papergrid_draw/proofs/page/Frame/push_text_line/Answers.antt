@@ -1,6 +1,7 @@
-use Rattle.std.proofs.Common.{rules, ◌<◌, ◌+◌, length, string_bytes, sym}
+use Rattle.std.proofs.Common.{rules, ◌<◌, ◌+◌, length, string_bytes, subst, sym}
 use Rattle.std.proofs.lemmas.List.{append-nil}
 use Rattle.std.proofs.lemmas.Result.{on_ok_weaker}
+use Rattle.papergrid_layout.specs.Tables.{TableParts}
 use Rattle.papergrid_draw.specs.Drawn.{column_pieces}
 use borrow.Author.Rules.{scaled_Fits}
 use Rattle.papergrid_draw.specs.ForProofs.Pages.{drawing_of, text_start}
@@ -8,6 +9,9 @@ use Rattle.papergrid_draw.proofs.LineLemmas.{column-more, frame-columns, frame-h
 use Rattle.papergrid_draw.proofs.RuleLemmas.{column-in, columns-all, columns-past, last-in}
 use Rattle.papergrid_draw.proofs.SlotLemmas.{slots-end, slots-start, slots-step}
 use Rattle.papergrid_draw.proofs.page.Frame.push_text_line.Goals as goal
+
+pub get_height-height-requires : goal.get_height-height-requires
+get_height-height-requires g c = subst (λ (t : TableParts). c.args.row < length t.heights) (sym c.requires.2.table) c.requires.3
 
 pub loop-col-init : goal.loop-col-init
 loop-col-init g c = λ parts texts read are.
