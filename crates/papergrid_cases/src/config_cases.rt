@@ -3,7 +3,7 @@
 use crate::answer::Answer;
 use crate::compact_cases::with_setting;
 use crate::config_questions;
-use crate::pair::Kind;
+use crate::pair::{Kind, copy};
 use crate::reading::Words;
 use crate::running::{Outcome, add_to};
 use crate::settings::setting;
@@ -83,7 +83,7 @@ impl Kind for Config {
     }
 
     fn copy_from(&mut self, other: &Config) -> Outcome {
-        self.config = other.config.clone()?;
+        copy(&mut self.config, &other.config)?;
         self.compact = other.compact;
         Ok(())
     }

@@ -2,7 +2,7 @@
 
 use crate::answer::Answer;
 use crate::marks::{border, frame, horizontal_line, vertical_line};
-use crate::pair::Kind;
+use crate::pair::{Kind, copy};
 use crate::reading::Words;
 use crate::running::Outcome;
 use crate::sides::Side;
@@ -54,8 +54,7 @@ impl Kind for BorderTable<char> {
     }
 
     fn copy_from(&mut self, other: &BorderTable<char>) -> Outcome {
-        *self = other.clone()?;
-        Ok(())
+        copy(self, other)
     }
 }
 
@@ -118,8 +117,7 @@ impl Kind for OffsetTable<char> {
     }
 
     fn copy_from(&mut self, other: &OffsetTable<char>) -> Outcome {
-        *self = other.clone()?;
-        Ok(())
+        copy(self, other)
     }
 }
 
@@ -156,8 +154,7 @@ impl Kind for SpanTable {
     }
 
     fn copy_from(&mut self, other: &SpanTable) -> Outcome {
-        *self = other.clone()?;
-        Ok(())
+        copy(self, other)
     }
 }
 

@@ -1,7 +1,7 @@
 //! Maps of characters by entity.
 
 use crate::answer::Answer;
-use crate::pair::Kind;
+use crate::pair::{Kind, copy};
 use crate::reading::Words;
 use crate::running::{Outcome, add_to};
 use crate::size_questions::show_found;
@@ -67,8 +67,7 @@ impl Kind for Map {
     }
 
     fn copy_from(&mut self, other: &Map) -> Outcome {
-        self.map = other.map.clone()?;
-        Ok(())
+        copy(&mut self.map, &other.map)
     }
 }
 

@@ -29,6 +29,12 @@ pub trait Kind: Sized + Drop {
     fn copy_from(&mut self, other: &Self) -> Outcome;
 }
 
+/// Makes one a clone of another one.
+pub fn copy<T: Clone + Drop>(one: &mut T, other: &T) -> Outcome {
+    *one = other.clone()?;
+    Ok(())
+}
+
 /// One that is spoken of, and another one: `swap` exchanges them, and `copy` makes the other one equal the first.
 #[derive(Drop)]
 pub struct Pair<T> {

@@ -1,1 +1,2 @@
 pub mod ColumnWidths
+pub mod Sized

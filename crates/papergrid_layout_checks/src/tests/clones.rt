@@ -2,9 +2,9 @@
 
 ghost use Rattle.std.specs.Prelude.{◌≡◌, IfOk};
 
-use papergrid_values::{
-    ANSIBuf, Border, Borders, HorizontalLine, Indent, Sides, VerticalLine, laws,
-};
+use crate::tests::refused::color;
+use crate::tests::refused::colors::{frame, horizontal_line, sides};
+use papergrid_values::{ANSIBuf, Border, Indent, Sides, VerticalLine, laws};
 use std::alloc::{AllocError, Global};
 
 // A call whose condition is that a clone equals its original.
@@ -19,63 +19,41 @@ fn needs_equal_clones<T: Clone>(value: &T) -> Result<T, AllocError>
 fn is_equal_clone<T: Clone + PartialEq + Drop>(value: T) -> bool
     requires { (x y : T) → T.is_clone x y → y ≡ x }
 {
-    needs_equal_clones(&value).is_ok_and(|copy| copy == value)
-}
-
-fn color(alloc: Global) -> Result<ANSIBuf, AllocError> {
-    ANSIBuf::new(alloc, "<", ">")
-}
-
-fn is_colour_equal(alloc: Global) -> bool {
-    match color(alloc) {
-        Ok(color) => is_equal_clone(color),
+    match needs_equal_clones(&value) {
+        Ok(copy) => copy == value,
         Err(_) => false,
     }
 }
 
-fn are_sides_equal(alloc: Global) -> bool {
-    match color(alloc) {
-        Ok(color) => is_equal_clone(Sides::new(None, None, None, Some(color))),
+// The same of a value that is made for it.
+fn is_equal_clone_of<T: Clone + PartialEq + Drop>(made: Result<T, AllocError>) -> bool
+    requires { (x y : T) → T.is_clone x y → y ≡ x }
+{
+    match made {
+        Ok(value) => is_equal_clone(value),
         Err(_) => false,
     }
 }
 
-fn is_border_equal(alloc: Global) -> bool {
-    laws::equal_clones::<ANSIBuf>();
-    match color(alloc) {
-        Ok(color) => is_equal_clone(Border {
-            top: Some(color),
-            ..Border::empty()
-        }),
-        Err(_) => false,
-    }
-}
-
-fn is_frame_equal(alloc: Global) -> bool {
-    laws::equal_clones::<ANSIBuf>();
-    match color(alloc) {
-        Ok(color) => is_equal_clone(Borders {
-            top: Some(color),
-            ..Borders::empty()
-        }),
-        Err(_) => false,
-    }
-}
-
-fn is_line_equal(alloc: Global) -> bool {
-    match color(alloc) {
-        Ok(color) => is_equal_clone(HorizontalLine::new(Some(color), None, None, None)),
-        Err(_) => false,
-    }
+fn topped(alloc: Global) -> Result<Border<ANSIBuf>, AllocError> {
+    let top = Some(color(alloc)?);
+    Ok(Border {
+        top,
+        ..Border::empty()
+    })
 }
 
 #[test]
 fn clones_equal_their_originals(rt: HostRuntime) {
-    assert!(rt; is_colour_equal(rt.alloc()));
-    assert!(rt; are_sides_equal(rt.alloc()));
-    assert!(rt; is_equal_clone(Sides::filled(Indent::zero())));
-    assert!(rt; is_border_equal(rt.alloc()));
-    assert!(rt; is_frame_equal(rt.alloc()));
-    assert!(rt; is_line_equal(rt.alloc()));
-    assert!(rt; is_equal_clone(VerticalLine::filled('x')));
+    laws::equal_clones::<ANSIBuf>();
+    let alloc = rt.alloc();
+    assert!(rt;
+        is_equal_clone_of(color(alloc))
+            && is_equal_clone_of(sides(alloc))
+            && is_equal_clone(Sides::filled(Indent::zero()))
+            && is_equal_clone_of(topped(alloc))
+            && is_equal_clone_of(frame(alloc))
+            && is_equal_clone_of(horizontal_line(alloc))
+            && is_equal_clone(VerticalLine::filled('x'))
+    );
 }

@@ -4,16 +4,13 @@ ghost use Rattle.std.specs.Prelude.{◌≡◌, None, Some};
 ghost use Rattle.std.specs.Bool.{OnTrue};
 ghost use Rattle.std.specs.Option.{option_copied};
 
+use crate::tests::refused::with_clone;
 use papergrid_maps::EntityMap;
 use papergrid_values::{ANSIBuf, ANSIFmt, ANSIStr, Colors, Entity, NoColor, NoColors, Position};
-use std::alloc::Global;
+use std::alloc::{AllocError, Global};
 use std::collections::{BTreeMap, HashMap};
 use std::fmt;
 use std::fmt::Write;
-
-fn at(row: usize, col: usize) -> Position {
-    Position::new(row, col)
-}
 
 // Whether it is empty, and its colour at a position. A caller learns from the bound alone that
 // there is none where it is empty.
@@ -23,12 +20,12 @@ fn seen<C: Colors>(colors: &C, position: Position) -> (bool, Option<&C::Color>)
     (colors.is_empty(), colors.get_color(position))
 }
 
-// Whether that is seen of colours at a position.
-fn is_seen<C: Colors>(colors: &C, position: Position, expected: (bool, Option<&C::Color>)) -> bool
+// Whether that is seen of colours at a row and a column.
+fn is_seen<C: Colors>(colors: &C, at: (usize, usize), expected: (bool, Option<&C::Color>)) -> bool
 where
     C::Color: PartialEq,
 {
-    seen(colors, position) == expected
+    seen(colors, Position::from(at)) == expected
 }
 
 // What a colour writes before a text and after it.
@@ -41,7 +38,15 @@ fn written<C: ANSIFmt>(alloc: Global, color: &C) -> Result<String, fmt::Error> {
 }
 
 fn is_written<C: ANSIFmt>(alloc: Global, color: &C, expected: &str) -> bool {
-    written(alloc, color).is_ok_and(|text| text.as_str() == expected)
+    match written(alloc, color) {
+        Ok(text) => text.as_str() == expected,
+        Err(_) => false,
+    }
+}
+
+// Whether that is written of a colour, and through a reference to it.
+fn is_written_through<C: ANSIFmt>(alloc: Global, color: &C, expected: &str) -> bool {
+    is_written(alloc, color, expected) && is_written(alloc, &color, expected)
 }
 
 // A colour with no suffix of its own.
@@ -78,17 +83,11 @@ impl Colors for Everywhere {
     }
 }
 
-fn are_written(alloc: Global) -> bool {
-    let lent = ANSIStr::new("<", ">");
-    is_written(alloc, &lent, "<|>")
-        && is_written(alloc, &&lent, "<|>")
-        && ANSIBuf::new(alloc, "<", ">").is_ok_and(|color| {
-            is_written(alloc, &color, "<|>") && is_written(alloc, &&color, "<|>")
-        })
-}
-
 fn is_copied(alloc: Global, lent: ANSIStr<'_>, color: &ANSIBuf) -> bool {
-    ANSIBuf::copy_of(alloc, lent).is_ok_and(|copy| copy == *color)
+    match ANSIBuf::copy_of(alloc, lent) {
+        Ok(copy) => copy == *color,
+        Err(_) => false,
+    }
 }
 
 fn is_as_lent(alloc: Global, color: &ANSIBuf) -> bool {
@@ -99,12 +98,16 @@ fn is_as_lent(alloc: Global, color: &ANSIBuf) -> bool {
         && !color.is_empty()
 }
 
-fn is_owned(alloc: Global) -> bool {
-    ANSIBuf::new(alloc, "<", ">").is_ok_and(|color| is_as_lent(alloc, &color))
+fn is_owned(alloc: Global) -> Result<bool, AllocError> {
+    let color = ANSIBuf::new(alloc, "<", ">")?;
+    Ok(is_as_lent(alloc, &color) && is_written_through(alloc, &color, "<|>"))
 }
 
 fn is_empty_copied(alloc: Global) -> bool {
-    ANSIBuf::copy_of(alloc, ANSIStr::empty()).is_ok_and(|copy| copy.is_empty())
+    match ANSIBuf::copy_of(alloc, ANSIStr::empty()) {
+        Ok(copy) => copy.is_empty(),
+        Err(_) => false,
+    }
 }
 
 #[test]
@@ -116,43 +119,31 @@ fn lent_and_owned_colours(rt: HostRuntime) {
             && empty.is_empty()
             && ANSIStr::default() == empty
     );
-    assert!(rt; is_owned(rt.alloc()));
+    assert!(rt; is_owned(rt.alloc()) == Ok(true));
     assert!(rt; is_empty_copied(rt.alloc()));
 }
 
-// Two colours that are alike: one to be kept, and one to be looked for.
-fn reds(alloc: Global) -> Option<(ANSIBuf, ANSIBuf)> {
-    let red = ANSIBuf::new(alloc, "<", ">").ok()?;
-    let copy = red.clone().ok()?;
-    Some((red, copy))
-}
-
-fn is_owned_by_entity(alloc: Global) -> bool {
-    let mut colors = EntityMap::<Option<ANSIBuf>>::new(alloc, None);
-    let is_new = Colors::is_empty(&colors) && colors.get_color(at(0, 0)).is_none();
-    let is_found = match reds(alloc) {
-        Some((red, copy)) => {
-            colors.insert(Entity::Cell(0, 0), Some(copy)).is_ok()
-                && !Colors::is_empty(&colors)
-                && colors.get_color(at(0, 0)) == Some(&red)
-        }
-        None => false,
-    };
-    is_new && is_found
+// One of two colours that are alike is kept, and the other one is looked for.
+fn is_owned_by_entity(alloc: Global) -> Result<bool, AllocError> {
+    let (red, copy) = with_clone(ANSIBuf::new(alloc, "<", ">"))?;
+    let mut colors = EntityMap::new(alloc, None);
+    let is_new = is_seen(&colors, (0, 0), (true, None));
+    colors.insert(Entity::Cell(0, 0), Some(copy))?;
+    Ok(is_new && is_seen(&colors, (0, 0), (false, Some(&red))))
 }
 
 fn are_seen_by_entity(alloc: Global) -> bool {
     let (red, blue) = (ANSIStr::new("r", "R"), ANSIStr::new("b", "B"));
     let mut colors = EntityMap::new(alloc, Some(red));
-    is_seen(&colors, at(0, 0), (false, Some(&red)))
+    is_seen(&colors, (0, 0), (false, Some(&red)))
         && colors.insert(Entity::Column(1), None).is_ok()
         && colors.insert(Entity::Row(2), Some(blue)).is_ok()
-        && is_seen(&&colors, at(0, 1), (false, None))
-        && is_seen(&&colors, at(2, 1), (false, Some(&blue)))
+        && is_seen(&&colors, (0, 1), (false, None))
+        && is_seen(&&colors, (2, 1), (false, Some(&blue)))
         && colors.insert(Entity::Global, None).is_ok()
-        && is_seen(&&colors, at(2, 1), (true, None))
+        && is_seen(&&colors, (2, 1), (true, None))
         && colors.insert(Entity::Column(1), None).is_ok()
-        && is_seen(&colors, at(2, 1), (false, None))
+        && is_seen(&colors, (2, 1), (false, None))
 }
 
 fn red() -> ANSIStr<'static> {
@@ -161,48 +152,47 @@ fn red() -> ANSIStr<'static> {
 
 // Whether colours have none at this position, nor any at all.
 fn has_none<C: Colors>(colors: &C) -> bool {
-    let (is_empty, color) = seen(colors, at(0, 1));
+    let (is_empty, color) = seen(colors, Position::new(0, 1));
     is_empty && color.is_none()
 }
 
+// Whether red is seen at this position, and none at another one.
+fn is_red_alone<C: Colors<Color = ANSIStr<'static>>>(colors: &C) -> bool {
+    is_seen(colors, (0, 1), (false, Some(&red()))) && is_seen(colors, (1, 0), (false, None))
+}
+
 fn is_red_hashed(alloc: Global) -> bool {
-    let (mut colors, red) = (HashMap::new(alloc), red());
-    has_none(&colors)
-        && colors.insert(at(0, 1), red).is_ok()
-        && is_seen(&colors, at(0, 1), (false, Some(&red)))
-        && is_seen(&colors, at(1, 0), (false, None))
+    let mut colors = HashMap::new(alloc);
+    has_none(&colors) && colors.insert(Position::new(0, 1), red()).is_ok() && is_red_alone(&colors)
 }
 
 fn is_red_ordered(alloc: Global) -> bool {
-    let (mut colors, red) = (BTreeMap::new(alloc), red());
-    has_none(&colors)
-        && colors.insert(at(0, 1), red).is_ok()
-        && is_seen(&&colors, at(0, 1), (false, Some(&red)))
-        && is_seen(&&colors, at(1, 0), (false, None))
+    let mut colors = BTreeMap::new(alloc);
+    has_none(&colors) && colors.insert(Position::new(0, 1), red()).is_ok() && is_red_alone(&&colors)
+}
+
+fn is_red_everywhere() -> bool {
+    let everywhere = Everywhere { color: red() };
+    is_seen(&&everywhere, (7, 8), (false, Some(&red())))
 }
 
 #[test]
 fn colours_by_position(rt: HostRuntime) {
-    let (everywhere, red) = (Everywhere { color: red() }, red());
     assert!(rt; is_red_hashed(rt.alloc()));
     assert!(rt; is_red_ordered(rt.alloc()));
-    assert!(rt; is_seen(&&everywhere, at(7, 8), (false, Some(&red))));
+    assert!(rt; is_red_everywhere());
 }
 
 #[test]
 fn colours(rt: HostRuntime) {
+    let alloc = rt.alloc();
     assert!(rt;
-        is_written(rt.alloc(), &Plain, "P|\u{1b}[0m")
-            && is_written(rt.alloc(), &&Plain, "P|\u{1b}[0m")
+        is_written_through(alloc, &Plain, "P|\u{1b}[0m")
+            && is_written_through(alloc, &ANSIStr::new("<", ">"), "<|>")
+            && is_written_through(alloc, &NoColor, "|")
     );
-    assert!(rt; are_written(rt.alloc()));
-    assert!(rt; is_owned_by_entity(rt.alloc()));
-    assert!(rt; are_seen_by_entity(rt.alloc()));
-    assert!(rt;
-        is_seen(&&NoColors, at(0, 0), (true, None))
-            && is_written(rt.alloc(), &NoColor, "|")
-            && is_written(rt.alloc(), &&NoColor, "|")
-    );
+    assert!(rt; is_owned_by_entity(alloc) == Ok(true));
+    assert!(rt; are_seen_by_entity(alloc) && is_seen(&&NoColors, (0, 0), (true, None)));
     assert!(rt; NoColors == NoColors::default() && NoColors <= NoColors);
     assert!(rt; NoColor == NoColor::default() && NoColor <= NoColor);
 }

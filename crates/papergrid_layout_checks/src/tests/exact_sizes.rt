@@ -28,6 +28,18 @@ pub fn rows_of(alloc: Global, rows: &[&[&str]]) -> Result<Vec<Vec<String>>, Allo
     Ok(held)
 }
 
+/// Rows of texts that are lent.
+pub fn lent_rows(
+    alloc: Global,
+    rows: &[&[&'static str]],
+) -> Result<Vec<Vec<&'static str>>, AllocError> {
+    let mut held = Vec::new(alloc);
+    for row in rows {
+        held.push(row.to_vec(alloc)?)?;
+    }
+    Ok(held)
+}
+
 /// Records of rows of so many columns.
 fn records_of(
     alloc: Global,
@@ -53,9 +65,10 @@ const ROWS: &[&[&str]] = &[&["a", "a", "a"], &["0123456789"], &["a", "01234567"]
 
 #[test]
 fn lent_records(rt: HostRuntime) -> Result<(), Fail> {
-    let records = records_of(rt.alloc(), 3, ROWS)?;
-    let config = SpannedConfig::new(rt.alloc());
-    let is_same = is_same_lent(rt.alloc(), records, &config);
+    let alloc = rt.alloc();
+    let records = records_of(alloc, 3, ROWS)?;
+    let config = SpannedConfig::new(alloc);
+    let is_same = is_same_lent(alloc, records, &config);
     drop(config);
     assert!(rt; is_same == Ok(true));
     Ok(())
@@ -64,9 +77,10 @@ fn lent_records(rt: HostRuntime) -> Result<(), Fail> {
 // The columns are as wide as their longest texts: 10, 8 and 1.
 #[test]
 fn width_of_estimated(rt: HostRuntime) -> Result<(), Fail> {
-    let records = records_of(rt.alloc(), 3, ROWS)?;
-    let config = SpannedConfig::new(rt.alloc());
-    let width = width_by_estimate(rt.alloc(), records, &config);
+    let alloc = rt.alloc();
+    let records = records_of(alloc, 3, ROWS)?;
+    let config = SpannedConfig::new(alloc);
+    let width = width_by_estimate(alloc, records, &config);
     drop(config);
     assert!(rt; width == Ok(19));
     Ok(())
@@ -87,9 +101,10 @@ fn is_cloned(
 
 #[test]
 fn clones(rt: HostRuntime) -> Result<(), Fail> {
-    let records = records_of(rt.alloc(), 1, &[&["ab"]])?;
-    let config = SpannedConfig::new(rt.alloc());
-    let are_clones = is_cloned(rt.alloc(), &records, &config);
+    let alloc = rt.alloc();
+    let records = records_of(alloc, 1, &[&["ab"]])?;
+    let config = SpannedConfig::new(alloc);
+    let are_clones = is_cloned(alloc, &records, &config);
     drop(config);
     assert!(rt; are_clones == Ok(true));
     Ok(())

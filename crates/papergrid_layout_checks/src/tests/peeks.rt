@@ -11,22 +11,22 @@ use papergrid_text::{PeekableRecords, Text, VecRecords};
 use papergrid_values::Position;
 use std::alloc::{AllocError, Global};
 
-/// The text of a cell, how many lines it has, its width, and a line with its width.
-pub fn peek<R: PeekableRecords>(
+/// Whether these are the text of a cell, how many lines it has, its width, and a line with its width.
+pub fn is_peeked<R: PeekableRecords>(
     records: &R,
     position: Position,
     line: usize,
-) -> (&str, usize, usize, &str, usize)
+    expected: (&str, usize, usize, &str, usize),
+) -> bool
     requires at { R.has records.now position }
     requires there { R.has_line records.now position line }
 {
-    (
-        records.get_text(position),
-        records.count_lines(position),
-        records.get_width(position),
-        records.get_line(position, line),
-        records.get_line_width(position, line),
-    )
+    let (text, lines, width, of_line, line_width) = expected;
+    records.get_text(position) == text
+        && records.count_lines(position) == lines
+        && records.get_width(position) == width
+        && records.get_line(position, line) == of_line
+        && records.get_line_width(position, line) == line_width
 }
 
 /// Records that write `get_text` alone.
@@ -50,8 +50,8 @@ fn provided_peeks(rt: HostRuntime) {
     let position = Position::new(0, 0);
     let one = OneText;
     assert!(rt;
-        peek(&one, position, 1) == ("a\nb", 2, 1, "b", 1)
-            && peek(&&one, position, 1) == ("a\nb", 2, 1, "b", 1)
+        is_peeked(&one, position, 1, ("a\nb", 2, 1, "b", 1))
+            && is_peeked(&&one, position, 1, ("a\nb", 2, 1, "b", 1))
             && one.get_line(position, 2) == ""
     );
 }
@@ -63,8 +63,8 @@ fn are_exact<R: PeekableRecords>(records: &R) -> bool
     requires second { R.has records.now (record { row = 0; col = 1 }) }
     requires second_line { R.has_line records.now (record { row = 0; col = 1 }) 1 }
 {
-    peek(records, Position::new(0, 0), 0) == ("ab", 1, 7, "ab", 7)
-        && peek(records, Position::new(0, 1), 1) == ("xyz", 2, 9, "bc", 2)
+    is_peeked(records, Position::new(0, 0), 0, ("ab", 1, 7, "ab", 7))
+        && is_peeked(records, Position::new(0, 1), 1, ("xyz", 2, 9, "bc", 2))
 }
 
 /// Whether records answer so themselves, through a reference, and through one to a reference.
@@ -78,9 +78,13 @@ fn are_exact_through<R: PeekableRecords>(records: &R) -> bool
 }
 
 fn are_exact_cells(alloc: Global) -> Result<bool, AllocError> {
-    let first = Text::exact("ab", 7, Vec::new(alloc));
-    let second = Text::exact("xyz", 9, given_lines(alloc)?);
-    let records = VecRecords::new(vec![in alloc; vec![in alloc; first, second]?]?);
+    let lines = given_lines(alloc)?;
+    let cells = [
+        Text::exact("ab", 7, Vec::new(alloc)),
+        Text::exact("xyz", 9, lines),
+    ];
+    let row = Vec::from_array(alloc, cells)?;
+    let records = VecRecords::new(vec![in alloc; row]?);
     Ok(
         PeekableRecords::count_lines(&records, Position::new(0, 0)) == 1
             && PeekableRecords::count_lines(&records, Position::new(0, 1)) == 2

@@ -3,7 +3,7 @@
 //! what the call changes equals its clone of before. Where one is refused to what is made for a call, it ends with
 //! `AllocError`. `tests/refuse-each` refuses each request of each test, and sees that each call was refused something.
 
-mod colors;
+pub mod colors;
 mod estimates;
 mod map_calls;
 mod records;
@@ -15,27 +15,17 @@ use std::process::Abort;
 use std::test::Fail;
 
 /// The number of a call among those that a test is about, from 1 on, and how many they are.
-#[derive(Clone, Copy)]
-struct CallNumber {
-    number: usize,
-    of: usize,
-}
-
-fn call(number: usize, of: usize) -> CallNumber {
-    CallNumber { number, of }
-}
+type CallNumber = (usize, usize);
 
 /// The one call of a test.
-fn only() -> CallNumber {
-    call(1, 1)
-}
+const ONLY: CallNumber = (1, 1);
 
 /// What a test ends with by the answer of a call.
 fn says<A: Drop>(call: CallNumber, answer: Result<A, AllocError>) -> Result<(), Fail> {
     match answer {
         Ok(_) => Ok(()),
         Err(AllocError) => {
-            let (number, of) = (call.number, call.of);
+            let (number, of) = call;
             Err(Fail::new(format_args!("refused: call {number} of {of}")))
         }
     }
@@ -55,7 +45,7 @@ fn keeps<T: PartialEq + Drop, A: Drop>(
 }
 
 /// A value that is made, and its clone.
-fn with_clone<T: Clone + Drop>(made: Result<T, AllocError>) -> Result<(T, T), AllocError> {
+pub fn with_clone<T: Clone + Drop>(made: Result<T, AllocError>) -> Result<(T, T), AllocError> {
     let value = made?;
     let copy = value.clone()?;
     Ok((value, copy))
@@ -72,6 +62,7 @@ fn clones<T: Clone + PartialEq + Drop>(
     keeps(rt, call, value, before, copy)
 }
 
-fn color(alloc: Global) -> Result<ANSIBuf, AllocError> {
+/// A colour that owns its texts.
+pub fn color(alloc: Global) -> Result<ANSIBuf, AllocError> {
     ANSIBuf::new(alloc, "<red>", "</>")
 }

@@ -16,10 +16,7 @@ pub fn of_held(
 ) -> Result<Vec<usize>, LayoutError>
     ensures { IfOk result (λ widths. AreSizes (columns_problem config.now records) widths.items) }
 {
-    match IterGridDimension::width(alloc, records, config) {
-        Ok(widths) => Ok(widths),
-        Err(error) => Err(error),
-    }
+    IterGridDimension::width(alloc, records, config)
 }
 
 pub fn of_lent(
@@ -30,10 +27,7 @@ pub fn of_lent(
     ensures { IfOk result (λ widths.
         AreSizes (columns_problem config.now records.now) widths.items) }
 {
-    match IterGridDimension::width(alloc, records, config) {
-        Ok(widths) => Ok(widths),
-        Err(error) => Err(error),
-    }
+    IterGridDimension::width(alloc, records, config)
 }
 
 /// The width of a table by the sizes of an estimate.

@@ -1,5 +1,6 @@
 //! Counts of long runs, and what measured texts keep where they are moved, cloned, compared and hashed.
 
+use crate::tests::refused::with_clone;
 use papergrid_text::string::{Lines, count_lines, get_lines};
 use papergrid_text::{Cell, StrWithWidth, Text, count_byte};
 use std::alloc::{AllocError, Global};
@@ -63,9 +64,7 @@ fn is_kept(text: &Text<String>) -> bool {
 }
 
 fn is_moved_and_cloned(alloc: Global) -> Result<bool, AllocError> {
-    let first = measured(alloc)?;
-    let moved = first;
-    let copy = moved.clone()?;
+    let (moved, copy) = with_clone(measured(alloc))?;
     Ok(is_kept(&moved) && is_kept(&copy))
 }
 
@@ -117,20 +116,26 @@ fn is_new_exact(alloc: Global) -> Result<bool, AllocError> {
     Ok(is_alike_exact(alloc, &first)? & is_more_than_none(alloc, &first)?)
 }
 
-fn are_lines_by_width(alloc: Global) -> bool {
-    let lent = StrWithWidth::new(CowStr::Borrowed("bc"), 2);
-    owned_line(alloc).is_ok_and(|owned| lent == owned) && lent.clone().is_ok_and(is_narrow)
+/// The line `bc` of such a width, which is lent.
+fn lent_line(width: usize) -> StrWithWidth<'static> {
+    StrWithWidth::new(CowStr::Borrowed("bc"), width)
 }
 
-fn is_narrow(line: StrWithWidth<'_>) -> bool {
-    line < StrWithWidth::new(CowStr::Borrowed("bc"), 3)
+fn is_as_owned(alloc: Global) -> Result<bool, AllocError> {
+    Ok(lent_line(2) == owned_line(alloc)?)
+}
+
+fn is_copy_narrower() -> Result<bool, AllocError> {
+    Ok(is_less(lent_line(2).clone()?, &lent_line(3)))
 }
 
 #[test]
 fn measured_texts(rt: HostRuntime) {
-    assert!(rt; are_counted(rt.alloc()) == Ok(true));
-    assert!(rt; is_moved_and_cloned(rt.alloc()) == Ok(true));
-    assert!(rt; is_exact(rt.alloc()) == Ok(true));
-    assert!(rt; is_new_exact(rt.alloc()) == Ok(true));
-    assert!(rt; are_lines_by_width(rt.alloc()));
+    let alloc = rt.alloc();
+    assert!(rt; are_counted(alloc) == Ok(true));
+    assert!(rt; is_moved_and_cloned(alloc) == Ok(true));
+    assert!(rt; is_exact(alloc) == Ok(true));
+    assert!(rt; is_new_exact(alloc) == Ok(true));
+    assert!(rt; is_as_owned(alloc) == Ok(true));
+    assert!(rt; is_copy_narrower() == Ok(true));
 }

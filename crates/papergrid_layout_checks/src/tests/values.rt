@@ -27,7 +27,10 @@ fn walked(
 }
 
 fn is_walked(alloc: Global) -> bool {
-    walked(alloc, Entity::Global, 10, 10).is_ok_and(|walk| walk.len() == 100)
+    match walked(alloc, Entity::Global, 10, 10) {
+        Ok(walk) => walk.len() == 100,
+        Err(_) => false,
+    }
 }
 
 fn are_sums() -> bool {

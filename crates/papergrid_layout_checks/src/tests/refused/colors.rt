@@ -1,6 +1,6 @@
 //! Colours, and what is made of them.
 
-use super::{call, clones, color, says};
+use super::{clones, color, says};
 use papergrid_values::{ANSIBuf, Border, Borders, HorizontalLine, Sides, VerticalLine};
 use std::alloc::{AllocError, Global};
 use std::test::Fail;
@@ -8,18 +8,18 @@ use std::test::Fail;
 #[test]
 fn colors(rt: HostRuntime) -> Result<(), Fail> {
     let alloc = rt.alloc();
-    says(call(1, 4), ANSIBuf::new(alloc, "<red>", "</>"))?;
+    says((1, 4), ANSIBuf::new(alloc, "<red>", "</>"))?;
     let color = color(alloc)?;
-    says(call(2, 4), ANSIBuf::copy_of(alloc, color.as_ref()))?;
-    says(call(3, 4), Border::filled(&color).cloned())?;
-    clones(&rt, call(4, 4), Ok(color))
+    says((2, 4), ANSIBuf::copy_of(alloc, color.as_ref()))?;
+    says((3, 4), Border::filled(&color).cloned())?;
+    clones(&rt, (4, 4), Ok(color))
 }
 
 fn two(alloc: Global) -> Result<(Option<ANSIBuf>, Option<ANSIBuf>), AllocError> {
     Ok((Some(color(alloc)?), Some(color(alloc)?)))
 }
 
-fn frame(alloc: Global) -> Result<Borders<ANSIBuf>, AllocError> {
+pub fn frame(alloc: Global) -> Result<Borders<ANSIBuf>, AllocError> {
     let (top, right_intersection) = two(alloc)?;
     let mut frame = Borders::empty();
     frame.top = top;
@@ -27,7 +27,7 @@ fn frame(alloc: Global) -> Result<Borders<ANSIBuf>, AllocError> {
     Ok(frame)
 }
 
-fn sides(alloc: Global) -> Result<Sides<Option<ANSIBuf>>, AllocError> {
+pub fn sides(alloc: Global) -> Result<Sides<Option<ANSIBuf>>, AllocError> {
     let (left, top) = two(alloc)?;
     Ok(Sides::new(left, None, top, None))
 }
@@ -36,7 +36,7 @@ fn border(alloc: Global) -> Result<Border<ANSIBuf>, AllocError> {
     Border::filled(&color(alloc)?).cloned()
 }
 
-fn horizontal_line(alloc: Global) -> Result<HorizontalLine<ANSIBuf>, AllocError> {
+pub fn horizontal_line(alloc: Global) -> Result<HorizontalLine<ANSIBuf>, AllocError> {
     let (main, right) = two(alloc)?;
     Ok(HorizontalLine::new(main, None, None, right))
 }
@@ -50,9 +50,9 @@ fn vertical_line(alloc: Global) -> Result<VerticalLine<ANSIBuf>, AllocError> {
 #[test]
 fn of_two(rt: HostRuntime) -> Result<(), Fail> {
     let alloc = rt.alloc();
-    clones(&rt, call(1, 5), sides(alloc))?;
-    clones(&rt, call(2, 5), border(alloc))?;
-    clones(&rt, call(3, 5), frame(alloc))?;
-    clones(&rt, call(4, 5), horizontal_line(alloc))?;
-    clones(&rt, call(5, 5), vertical_line(alloc))
+    clones(&rt, (1, 5), sides(alloc))?;
+    clones(&rt, (2, 5), border(alloc))?;
+    clones(&rt, (3, 5), frame(alloc))?;
+    clones(&rt, (4, 5), horizontal_line(alloc))?;
+    clones(&rt, (5, 5), vertical_line(alloc))
 }

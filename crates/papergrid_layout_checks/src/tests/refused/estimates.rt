@@ -4,7 +4,8 @@ ghost use Rattle.std.specs.Prelude.{List, ℕ};
 ghost use Rattle.std.specs.Borrow.{Bor};
 ghost use Rattle.papergrid_text.specs.declared.vec_records.VecRecords.{VecRecords};
 
-use super::{call, clones, says, with_clone};
+use super::{clones, says, with_clone};
+use crate::tests::exact_sizes::lent_rows;
 use papergrid_config::{CompactConfig, SpannedConfig};
 use papergrid_layout::{
     CompactGridDimension, Estimate, IterGridDimension, LayoutError, LeastGridDimension,
@@ -27,11 +28,7 @@ fn records(
     alloc: Global,
     rows: &[&[&'static str]],
 ) -> Result<VecRecords<&'static str>, AllocError> {
-    let mut held = Vec::new(alloc);
-    for row in rows {
-        held.push(row.to_vec(alloc)?)?;
-    }
-    Ok(VecRecords::new(held))
+    Ok(VecRecords::new(lent_rows(alloc, rows)?))
 }
 
 /// Makes the settings of the picture.
@@ -77,9 +74,9 @@ fn estimates<C, D: Estimate<VecRecords<&'static str>, C> + Clone + PartialEq + D
     let (mut dimension, before) = with_clone(sized(rt, dimension, config))?;
     let answer = dimension.estimate(records, config);
     assert!(rt; answer.is_ok() || dimension == before);
-    says(call(1, 2), in_table(rt, answer))?;
+    says((1, 2), in_table(rt, answer))?;
     drop(before);
-    clones(rt, call(2, 2), Ok(dimension))
+    clones(rt, (2, 2), Ok(dimension))
 }
 
 /// The same by the settings of the picture.

@@ -1,6 +1,6 @@
 //! Calls of a map by entity, made at once.
 
-use super::{keeps, only, says};
+use super::{ONLY, keeps, says};
 use papergrid_maps::{EntityMap, MapCall, Stopped};
 use papergrid_values::Entity;
 use std::alloc::{AllocError, Global};
@@ -21,11 +21,11 @@ fn ten_calls(alloc: Global) -> Result<Vec<MapCall<char>>, AllocError> {
     ]?)
 }
 
-fn make(map: &mut EntityMap<char>, call: MapCall<char>) -> Result<(), AllocError> {
+fn make(map: &mut EntityMap<char>, call: &MapCall<char>) -> Result<(), AllocError> {
     match call {
-        MapCall::Insert(entity, value) => map.insert(entity, value),
+        MapCall::Insert(entity, value) => map.insert(*entity, *value),
         MapCall::Remove(entity) => {
-            map.remove(entity);
+            map.remove(*entity);
             Ok(())
         }
     }
@@ -33,8 +33,10 @@ fn make(map: &mut EntityMap<char>, call: MapCall<char>) -> Result<(), AllocError
 
 /// A map that is given the first of ten calls, one by one.
 fn with_first(alloc: Global, count: usize) -> Result<EntityMap<char>, AllocError> {
+    let mut calls = ten_calls(alloc)?;
+    calls.truncate(count);
     let mut map = EntityMap::new(alloc, 'g');
-    for call in ten_calls(alloc)?.into_iter().take(count) {
+    for call in &calls {
         make(&mut map, call)?;
     }
     Ok(map)
@@ -48,7 +50,7 @@ fn apply_all(rt: HostRuntime) -> Result<(), Fail> {
         Ok(()) => Ok(()),
         Err(Stopped { done }) => {
             let like = with_first(rt.alloc(), done)?;
-            keeps(&rt, only(), map, like, Err::<(), AllocError>(AllocError))
+            keeps(&rt, ONLY, map, like, Err::<(), AllocError>(AllocError))
         }
     }
 }
@@ -56,5 +58,5 @@ fn apply_all(rt: HostRuntime) -> Result<(), Fail> {
 #[test]
 fn clone_of_calls(rt: HostRuntime) -> Result<(), Fail> {
     let calls = ten_calls(rt.alloc())?;
-    says(only(), calls.clone())
+    says(ONLY, calls.clone())
 }

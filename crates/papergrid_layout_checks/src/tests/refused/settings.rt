@@ -1,6 +1,6 @@
 //! Lists of settings, given to a configuration at once.
 
-use super::{keeps, only, says};
+use super::{ONLY, keeps, says};
 use papergrid_config::{Setting, SpannedConfig, Stopped};
 use papergrid_values::{
     Borders, Entity, HorizontalLine, Indent, Offset, Position, Sides, VerticalLine,
@@ -56,7 +56,7 @@ fn is_told(
     settings.truncate(done);
     let mut like = SpannedConfig::new(rt.alloc());
     if done_at_once(&mut like, settings) == done {
-        return keeps(rt, only(), config, like, Err::<(), AllocError>(AllocError));
+        return keeps(rt, ONLY, config, like, Err::<(), AllocError>(AllocError));
     }
     drop(config);
     drop(like);
@@ -74,5 +74,5 @@ fn apply_all(rt: HostRuntime) -> Result<(), Fail> {
 #[test]
 fn clone_of_settings(rt: HostRuntime) -> Result<(), Fail> {
     let settings = ten(rt.alloc())?;
-    says(only(), settings.clone())
+    says(ONLY, settings.clone())
 }

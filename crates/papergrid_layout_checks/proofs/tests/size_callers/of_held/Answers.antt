@@ -6,9 +6,10 @@ use Rattle.papergrid_config.specs.Grids.{spanned_grid}
 use Rattle.papergrid_walk.specs.Measures.{line_measure}
 use Rattle.papergrid_tracks.specs.Answers.{AreSizes}
 use Rattle.papergrid_walk.specs.Cells.{problem_of}
+use Rattle.papergrid_layout_checks.proofs.Sized.{from_sized}
 use Rattle.papergrid_layout_checks.proofs.tests.size_callers.of_held.Goals as goal
 
-pub returns-in-Ok : goal.returns-in-Ok
-returns-in-Ok c =
-    let told = c.in-Ok.ensures in
-    subst (λ cells. AreSizes (problem_of (spanned_grid c.args.config.now) (line_measure string_bytes) (column_count c.args.records) cells Columns) c.in-Ok.widths.items) told.1 told.2
+pub returns : goal.returns
+returns c =
+    from_sized c.width.result _ _ _ (λ cells t sizes s. subst (λ known. AreSizes (problem_of (spanned_grid c.args.config.now) (line_measure string_bytes) (column_count c.args.records) known Columns) sizes)
+    t s) c.width.ensures

@@ -6,11 +6,12 @@ use Rattle.papergrid_config.specs.Grids.{spanned_grid}
 use Rattle.papergrid_walk.specs.Measures.{line_measure}
 use Rattle.papergrid_tracks.specs.Answers.{AreSizes}
 use Rattle.papergrid_layout.proofs.Told.{problem_told}
+use Rattle.papergrid_layout_checks.proofs.Sized.{from_sized}
 use Rattle.papergrid_layout_checks.proofs.tests.size_callers.of_lent.Goals as goal
 
-pub returns-in-Ok : goal.returns-in-Ok
-returns-in-Ok c =
-    let told = c.in-Ok.ensures in
-    subst (λ problem. AreSizes problem c.in-Ok.widths.items)
-    (problem_told (spanned_grid c.args.config.now) (λ cell. cell.now) (line_measure string_bytes) told.0 (map (λ row. row.items) (rows_held c.args.records.now).items) told.1 Columns
-    (column_count c.args.records.now)) told.2
+pub returns : goal.returns
+returns c =
+    let grid = spanned_grid c.args.config.now in
+    let columns = column_count c.args.records.now in
+    from_sized c.width.result _ _ _ (λ cells t sizes s. subst (λ problem. AreSizes problem sizes)
+    (problem_told grid (λ cell. cell.now) (line_measure string_bytes) cells (map (λ row. row.items) (rows_held c.args.records.now).items) t Columns columns) s) c.width.ensures
