@@ -11,7 +11,6 @@ use papergrid_maps::Anchor;
 use papergrid_values::PerDirection;
 
 /// Where each track begins and where it ends.
-#[derive(Debug)]
 pub struct Marks {
     pub begins: Vec<usize>,
     pub ends: Vec<usize>,

@@ -17,7 +17,7 @@ use std::alloc::{AllocError, Global};
 
 /// A cell over several columns or rows, its screen rectangle, and the first row that neither it nor
 /// a cell before it spans.
-#[derive(Clone, Copy, Debug)]
+#[derive(Clone, Copy)]
 pub struct SpanningCell {
     pub position: Position,
     pub place: Place,
