@@ -7,9 +7,6 @@ use Rattle.papergrid_draw.proofs.PlainLemmas.{one-more, plain-inside, plain-slot
 use Rattle.papergrid_draw.proofs.RuleLemmas.{column-in, columns-all}
 use Rattle.papergrid_draw.proofs.plain.plain_slots.Goals as goal
 
-pub block-block-requires : goal.block-block-requires
-block-block-requires g c = (c.args.frame.now.table.now, c.requires.frame)
-
 pub loop-col-preserved : goal.loop-col-preserved
 loop-col-preserved g c =
     let parts = c.args.frame.now.table.now in

@@ -8,24 +8,11 @@ use Rattle.papergrid_draw.proofs.PenLemmas.{on_ok_added}
 use Rattle.papergrid_draw.proofs.PlainRuleLemmas.{rule-same}
 use Rattle.papergrid_draw.proofs.plain.push_plain_rule_line.Goals as goal
 
-pub push_own_rule-requires : goal.push_own_rule-requires
-push_own_rule-requires c = record { frame = c.requires.frame; plain = c.requires.plain; row_in = c.requires.row_in }
-
-pub returns-then-not-is_common_rule-clause-own : goal.returns-then-not-is_common_rule-clause-own
-returns-then-not-is_common_rule-clause-own c = on_ok_weaker c.push_own_rule.result (λ written. c.requires.own) c.push_own_rule.ensures
-
 pub returns-in-Some-clause-bytes : goal.returns-in-Some-clause-bytes
 returns-in-Some-clause-bytes c = on_ok_weaker c.push_str.result (λ added texts. added
     ∙ ap (λ text. string_bytes c.args.line.now ++ text) (c.as_str.ensures.value
     ∙ c.requires.own.rule texts c.in-Some.rule c.args.row c.in-Some.is ((c.is_common_rule.ensures texts).0 c.if-not-is_common_rule.false)))
     (on_ok_added c.push_str.result (string_bytes c.args.line.now) c.as_str.result.now (string_bytes c.push_str.new.self) c.push_str.ensures.bytes)
-
-pub returns-in-Some-clause-own : goal.returns-in-Some-clause-own
-returns-in-Some-clause-own c = on_ok_weaker c.push_str.result (λ added. c.requires.own)
-    (on_ok_added c.push_str.result (string_bytes c.args.line.now) c.as_str.result.now (string_bytes c.push_str.new.self) c.push_str.ensures.bytes)
-
-pub push_own_rule-requires-2 : goal.push_own_rule-requires-2
-push_own_rule-requires-2 c = record { frame = c.requires.frame; plain = c.requires.plain; row_in = c.requires.row_in }
 
 pub returns-clause-own : goal.returns-clause-own
 returns-clause-own c = record {

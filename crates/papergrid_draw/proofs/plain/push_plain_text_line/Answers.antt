@@ -1,4 +1,4 @@
-use Rattle.std.proofs.Common.{◌≡◌, ◌<◌, ◌≤◌, ◌++◌, ◌∙◌, ap, arith, length, string_bytes, subst}
+use Rattle.std.proofs.Common.{◌≡◌, ◌≤◌, ◌++◌, ◌∙◌, ap, arith, length, string_bytes}
 use Rattle.std.proofs.lemmas.Result.{on_ok_weaker}
 use Rattle.papergrid_values.specs.Positions.{position_of}
 use Rattle.papergrid_draw.specs.Bytes.{pieces_bytes}
@@ -13,15 +13,6 @@ use Rattle.papergrid_draw.proofs.plain.push_plain_text_line.Goals as goal
 
 pub push_vertical-requires : goal.push_vertical-requires
 push_vertical-requires g c = (c.args.frame.now.table.now, c.requires.own, (let wide = frame-columns c.requires.frame in omega (arith, wide)))
-
-pub push_cell-requires : goal.push_cell-requires
-push_cell-requires g c = record {
-  frame = c.requires.frame;
-  plain = c.requires.plain;
-  row_in = c.requires.row_in;
-  col_in = subst (λ n. c.loop-col.col < n) (ap (λ s. s.1) c.requires.frame.shape) c.loop-col-test.true;
-  low = c.requires.low;
-}
 
 pub loop-col-preserved : goal.loop-col-preserved
 loop-col-preserved g c =

@@ -6,9 +6,6 @@ use Rattle.papergrid_draw.proofs.SheetLemmas.{lines-refused}
 use Rattle.papergrid_draw.proofs.PlainLemmas.{text-comes}
 use Rattle.papergrid_draw.proofs.plain_rows.draw_high_row.Goals as goal
 
-pub plain_slots-requires : goal.plain_slots-requires
-plain_slots-requires g c = record { frame = c.requires.frame; plain = c.requires.plain; row_in = c.requires.row_in }
-
 pub returns-in_err-slots-clause-lines : goal.returns-in_err-slots-clause-lines
 returns-in_err-slots-clause-lines g c =
     let p = err_from_is_err_and c.from_residual.result c.from_residual.ensures.1 in

@@ -16,15 +16,6 @@ returns-in_err-begin_beside-clause-lines g c =
     let p = err_from_is_err_and c.from_residual.result c.from_residual.ensures.1 in
     rw (p.1, p.2) (lines-refused g.D.Delivery.takes g.D.Delivery.breaks _ _ _ _ _)
 
-pub push_plain_text_line-requires : goal.push_plain_text_line-requires
-push_plain_text_line-requires g c = record {
-  frame = c.requires.frame;
-  plain = c.requires.plain;
-  own = c.requires.own;
-  row_in = c.requires.row_in;
-  low = c.requires.low;
-}
-
 pub returns-in_err-push_plain_text_line-clause-lines : goal.returns-in_err-push_plain_text_line-clause-lines
 returns-in_err-push_plain_text_line-clause-lines g c =
     let p = err_from_is_err_and c.from_residual-in_err-push_plain_text_line.result c.from_residual-in_err-push_plain_text_line.ensures.1 in

@@ -7,15 +7,6 @@ use Rattle.papergrid_draw.specs.ForProofs.Sheets.{WritesLines, margined, first_t
 use Rattle.papergrid_draw.proofs.PrinterLemmas.{length-rule_lines, margined-cut, margined-lines, row-after, text-after}
 use Rattle.papergrid_draw.proofs.plain_rows.draw_plain_row.Goals as goal
 
-pub draw_plain_rule-requires : goal.draw_plain_rule-requires
-draw_plain_rule-requires g c = record {
-  frame = c.requires.frame;
-  plain = c.requires.plain;
-  own = c.requires.own;
-  row_in = omega (arith, c.requires.row_in);
-  start = λ texts. c.requires.start;
-}
-
 pub returns-in_err-draw_plain_rule-clause-lines : goal.returns-in_err-draw_plain_rule-clause-lines
 returns-in_err-draw_plain_rule-clause-lines g c =
     let texts = told_texts g.S.Cells.lines g.S.Cells.color c.args.cells.now in
@@ -25,18 +16,9 @@ returns-in_err-draw_plain_rule-clause-lines g c =
     (margined-cut d g.D.Delivery.takes g.D.Delivery.breaks _ _ _ _ _ (row_start d c.args.row) (rule_lines d c.args.row) (first_text_lines d c.args.row (d.heights c.args.row)) _
     (c.in_err-draw_plain_rule.ensures.lines texts))
 
-pub returns-in_err-draw_plain_rule-clause-own : goal.returns-in_err-draw_plain_rule-clause-own
-returns-in_err-draw_plain_rule-clause-own g c = rw (err_from_is_err_and c.from_residual.result c.from_residual.ensures.1).1 tt
-
-pub draw_low_row-requires : goal.draw_low_row-requires
-draw_low_row-requires g c = record {
-  frame = c.requires.frame;
-  plain = c.requires.plain;
-  own = c.in_ok-draw_plain_rule.ensures.own;
-  row_in = c.requires.row_in;
-  low = sym c.get_height.ensures ∙ c.if-get_height-eq1.true;
-  start = c.in_ok-draw_plain_rule.ensures.written (told_texts g.S.Cells.lines g.S.Cells.color c.args.cells.now) c.requires.row_in;
-}
+pub draw_low_row-requires-clause-start : goal.draw_low_row-requires-clause-start
+draw_low_row-requires-clause-start g c =
+    c.in_ok-draw_plain_rule.ensures.written (told_texts g.S.Cells.lines g.S.Cells.color c.args.cells.now) c.requires.row_in
 
 pub returns-then-get_height-eq1-clause-lines : goal.returns-then-get_height-eq1-clause-lines
 returns-then-get_height-eq1-clause-lines g c =
@@ -49,22 +31,15 @@ returns-then-get_height-eq1-clause-lines g c =
     (omega (arith, length-rule_lines d c.args.row, text-after d c.args.row))
     (c.in_ok-draw_plain_rule.ensures.lines texts) c.draw_low_row.ensures.lines)
 
-pub returns-then-get_height-eq1-clause-own : goal.returns-then-get_height-eq1-clause-own
-returns-then-get_height-eq1-clause-own g c = on_ok_weaker c.draw_low_row.result (λ written. c.in_ok-draw_plain_rule.ensures.own) c.draw_low_row.ensures.written
-
 pub returns-then-get_height-eq1-clause-written : goal.returns-then-get_height-eq1-clause-written
 returns-then-get_height-eq1-clause-written g c =
     let d = drawn_of g.S.Cells.lines g.S.Cells.color c.args.frame.now.table.now c.args.cells.now in
     let low : d.heights c.args.row ≡ 1 = sym c.get_height.ensures ∙ c.if-get_height-eq1.true in
     on_ok_weaker c.draw_low_row.result (λ written. omega (arith, written, low, row-after d c.args.row)) c.draw_low_row.ensures.written
 
-pub draw_high_row-requires : goal.draw_high_row-requires
-draw_high_row-requires g c = record {
-  frame = c.requires.frame;
-  plain = c.requires.plain;
-  row_in = c.requires.row_in;
-  start = c.in_ok-draw_plain_rule.ensures.written (told_texts g.S.Cells.lines g.S.Cells.color c.args.cells.now) c.requires.row_in;
-}
+pub draw_high_row-requires-clause-start : goal.draw_high_row-requires-clause-start
+draw_high_row-requires-clause-start g c =
+    c.in_ok-draw_plain_rule.ensures.written (told_texts g.S.Cells.lines g.S.Cells.color c.args.cells.now) c.requires.row_in
 
 pub returns-clause-lines : goal.returns-clause-lines
 returns-clause-lines g c =
@@ -74,9 +49,6 @@ returns-clause-lines g c =
     (first_text_lines d c.args.row (d.heights c.args.row)) tt _
     (omega (arith, length-rule_lines d c.args.row, text-after d c.args.row))
     (c.in_ok-draw_plain_rule.ensures.lines texts) c.draw_high_row.ensures.lines
-
-pub returns-clause-own : goal.returns-clause-own
-returns-clause-own g c = on_ok_weaker c.draw_high_row.result (λ written. c.in_ok-draw_plain_rule.ensures.own) c.draw_high_row.ensures.written
 
 pub returns-clause-written : goal.returns-clause-written
 returns-clause-written g c =

@@ -8,9 +8,6 @@ use Rattle.papergrid_draw.proofs.SheetLemmas.{lines-none, lines-refused}
 use Rattle.papergrid_draw.proofs.PrinterLemmas.{drawn-all, drawn-cut, first_rows-next}
 use Rattle.papergrid_draw.proofs.plain_rows.draw_plain_rows.Goals as goal
 
-pub new-requires : goal.new-requires
-new-requires g c = record { frame = c.requires.frame; plain = c.requires.plain }
-
 pub returns-in_err-lines : goal.returns-in_err-lines
 returns-in_err-lines g c =
     let p = err_from_is_err_and c.from_residual.result c.from_residual.ensures.1 in
@@ -21,15 +18,6 @@ loop-row-init g c = record {
   own = c.in_ok-lines.ensures;
   written = c.requires.start;
   wrote = lines-none g.D.Delivery.takes g.D.Delivery.breaks _ _ tt;
-}
-
-pub draw_plain_row-requires : goal.draw_plain_row-requires
-draw_plain_row-requires g c = record {
-  frame = c.requires.frame;
-  plain = c.requires.plain;
-  own = c.loop-row.invariant.own;
-  row_in = subst (λ n. c.loop-row.row < n) (ap (λ s. s.0) c.requires.frame.shape) c.loop-row-test.true;
-  start = c.loop-row.invariant.written;
 }
 
 pub returns-in_err-draw_plain_row : goal.returns-in_err-draw_plain_row
@@ -49,17 +37,11 @@ loop-row-preserved g c =
       wrote = first_rows-next d g.D.Delivery.takes g.D.Delivery.breaks _ _ _ _ _ _ (row_start d c.loop-row.row) c.loop-row.row tt (Ok tt) refl c.loop-row.invariant.wrote c.in_ok-draw_plain_row.ensures.lines;
     }
 
-pub draw_plain_rule-requires : goal.draw_plain_rule-requires
-draw_plain_rule-requires g c =
+pub draw_plain_rule-requires-clause-start : goal.draw_plain_rule-requires-clause-start
+draw_plain_rule-requires-clause-start g c = λ texts.
     let d = drawn_of g.S.Cells.lines g.S.Cells.color c.args.frame.now.table.now c.args.cells.now in
     let last : c.loop-row.row ≡ c.args.frame.now.shape.0 = omega arith in
-    record {
-      frame = c.requires.frame;
-      plain = c.requires.plain;
-      own = c.loop-row.invariant.own;
-      row_in = omega (arith, ap (λ s. s.0) c.requires.frame.shape);
-      start = λ texts. subst (λ r. c.loop-row.sheet.written ≡ row_start d r) last c.loop-row.invariant.written;
-    }
+    subst (λ r. c.loop-row.sheet.written ≡ row_start d r) last c.loop-row.invariant.written
 
 pub returns : goal.returns
 returns g c =

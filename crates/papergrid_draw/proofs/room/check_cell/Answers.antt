@@ -11,9 +11,6 @@ use Rattle.papergrid_draw.specs.ForProofs.Sheets.{told_texts}
 use Rattle.papergrid_draw.proofs.RoomLemmas.{first-without, inside-of, room-more, shown-of}
 use Rattle.papergrid_draw.proofs.room.check_cell.Goals as goal
 
-pub visible_anchor-requires-clause-asked : goal.visible_anchor-requires-clause-asked
-visible_anchor-requires-clause-asked g c = (spanned_grid c.args.frame.now.table.now.config, c.requires.shows)
-
 pub returns-then-is_none-clause-shows : goal.returns-then-is_none-clause-shows
 returns-then-is_none-clause-shows g c = c.in_ok-visible_anchor.ensures.later (spanned_grid c.args.frame.now.table.now.config) c.requires.shows
 
@@ -25,9 +22,6 @@ returns-then-is_none-clause-ok g c =
     shown-of (table.grid.shows p) (anchor_in table.grid p) c.in_ok-visible_anchor.field-0 false (c.in_ok-visible_anchor.ensures.visible table.grid c.requires.shows) c.if-is_none.ensures in
     room-more (drawn_of g.S.Cells.lines g.S.Cells.color c.args.frame.now.table.now c.args.cells.now) p.row p.col c.requires.before
     (λ none. false≢true (sym hidden ∙ none.is_cell.visible))
-
-pub block-requires : goal.block-requires
-block-requires g c = (c.args.frame.now.table.now, c.requires.frame)
 
 pub returns-in_default-clause-shows : goal.returns-in_default-clause-shows
 returns-in_default-clause-shows g c = c.in_ok-visible_anchor.ensures.later (spanned_grid c.args.frame.now.table.now.config) c.requires.shows

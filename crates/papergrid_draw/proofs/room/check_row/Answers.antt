@@ -5,20 +5,11 @@ use Rattle.papergrid_draw.specs.Drawings.{drawn_of}
 use Rattle.papergrid_draw.proofs.RoomLemmas.{room-turn}
 use Rattle.papergrid_draw.proofs.room.check_row.Goals as goal
 
-pub check_cell-requires-clause-frame : goal.check_cell-requires-clause-frame
-check_cell-requires-clause-frame g c = c.requires.frame
-
-pub check_cell-requires-clause-tiled : goal.check_cell-requires-clause-tiled
-check_cell-requires-clause-tiled g c = c.requires.tiled
-
 pub check_cell-requires-clause-shows : goal.check_cell-requires-clause-shows
 check_cell-requires-clause-shows g c = c.loop-col.invariant.shows
 
 pub check_cell-requires-clause-before : goal.check_cell-requires-clause-before
 check_cell-requires-clause-before g c = c.loop-col.invariant.before
-
-pub loop-col-preserved : goal.loop-col-preserved
-loop-col-preserved g c = record { shows = c.in_ok-check_cell.ensures.shows; before = c.in_ok-check_cell.ensures.ok }
 
 pub returns-clause-shows : goal.returns-clause-shows
 returns-clause-shows g c = shows_turn (spanned_grid c.args.frame.now.table.now.config) c.loop-col.sweep c.args.row c.loop-col.col c.loop-col.invariant.shows

@@ -7,9 +7,6 @@ use Rattle.papergrid_draw.proofs.EndLemmas.{shows-skip}
 use Rattle.papergrid_draw.proofs.TilingLemmas.{cell-ends, fault-two, found-ends, owned-own, owned-pass}
 use Rattle.papergrid_draw.proofs.tiles.Tiling.visit.Goals as goal
 
-pub index-requires : goal.index-requires
-index-requires c = let told = c.requires.walk in omega (arith, told.2.owned.each, told.1.1, c.args.self.now.until.ok.0)
-
 pub returns-then-index-row-clause-ok : goal.returns-then-index-row-clause-ok
 returns-then-index-row-clause-ok c = λ table inside has.
     let r = c.args.position.row in
@@ -23,9 +20,6 @@ returns-then-index-row-clause-ok c = λ table inside has.
       shows = shows-skip table.grid c.args.self.now.sweep r col has.shows;
       owned = owned-pass table c.args.self.now.sweep.anchors has.shows.anchors r col until inside.1 below has.owned;
     }
-
-pub visible_anchor-requires-clause-asked : goal.visible_anchor-requires-clause-asked
-visible_anchor-requires-clause-asked c = let told = c.requires.walk in (told.0.grid, told.2.shows)
 
 pub overflow_add-col : goal.overflow_add-col
 overflow_add-col c =
