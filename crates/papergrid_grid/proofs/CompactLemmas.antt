@@ -36,29 +36,47 @@ one_of_all h (suc n) some =
 
 module _ {T : Type 0} (text : T → List ℕ) (tells : List (List T) → Type 0) (columns : ℕ) (compact : CompactConfig) (widths : ℕ → ℕ) where
   -- the drawing of a compact table is one of the rows told
-  pub compact_drawing : {C K : Type 0} (texts : K → List ℕ × List ℕ) (color_at : C → Position → Option K) (colors : C)
-      (table : CompactTable T) (rows : List (Vec T Global)) (count : ℕ) →
-      IsCompactTable tells compact columns table → count ≡ length table.rows.items → rows ≡ table.rows.items →
+  compact_drawing : {C K : Type 0} (texts : K → List ℕ × List ℕ) (color_at : C → Position → Option K) (colors : C)
+      (table : CompactTable T) (rows : List (Vec T Global)) →
+      IsCompactTable tells compact columns table → rows ≡ table.held.rows.items →
       IsCompactDrawing text tells columns compact widths (texts_at texts color_at colors)
       (drawn_of (λ held. lines_at first_line (map (λ row. map text row.items) held)) (λ _. texts_at texts color_at colors)
-      (parts_of table.config widths (λ _. table.height) (count, table.columns)) rows)
-  compact_drawing texts color_at colors table rows count is n r =
-      let cells : List (List T) = map (λ (row : Vec T Global). row.items) table.rows.items in
-      let held : Drawing = drawn_of (λ held. lines_at first_line (map (λ (row : Vec T Global). map text row.items) held)) (λ _. texts_at texts color_at colors)
-      (parts_of table.config widths (λ _. table.height) (count, table.columns)) rows in
+      (parts_of table.config widths (λ _. table.height) (length table.held.rows.items, table.held.columns)) rows)
+  compact_drawing texts color_at colors table rows is r =
+      let held = table.held in
+      let cells : List (List T) = map (λ (row : Vec T Global). row.items) held.rows.items in
+      let here : Drawing = drawn_of (λ held. lines_at first_line (map (λ (row : Vec T Global). map text row.items) held)) (λ _. texts_at texts color_at colors)
+      (parts_of table.config widths (λ _. table.height) (length held.rows.items, held.columns)) rows in
       let drawn : List ℕ → Drawing = λ heights. drawing_of_rows (λ cell. first_line (text cell))
       (record { config = table.config; widths = map widths (range_with_len 0 columns); heights = heights }) cells (texts_at texts color_at colors) in
-      let count_of : length cells ≡ length table.rows.items = length-map table.rows.items (λ (row : Vec T Global). row.items) in
+      let count_of : length cells ≡ length held.rows.items = length-map held.rows.items (λ (row : Vec T Global). row.items) in
       record {
         config = table.config;
         made = is.made;
         cells = cells;
         told = is.told;
-        is = subst (λ heights. held ≡ drawn heights)
+        is = subst (λ heights. here ≡ drawn heights)
             (heights_same (length cells) table.height (compact_height compact) (λ some. is.has_height (λ none. some (count_of ∙ none))))
-            (drawn_rows first_line text texts color_at table.config widths (λ _. table.height) (λ _ d. held ≡ d)
-            count table.columns columns rows table.rows.items colors n is.has_columns r refl);
+            (drawn_rows first_line text texts color_at table.config widths (λ _. table.height) (λ _ d. here ≡ d)
+            (length held.rows.items) held.columns columns rows held.rows.items colors refl is.has_columns r refl);
       }
+
+  -- so is that of its shape, its rows, the height of each and the colours that are lent with them
+  pub compact_held : {C K : Type 0} (texts : K → List ℕ × List ℕ) (color_at : C → Position → Option K)
+      (table : CompactTable T) (wide : ℕ → ℕ) (height : ℕ) (shape : ℕ × ℕ) (rows : List (Vec T Global)) (lent colors : C) →
+      IsCompactTable tells compact columns table → wide ≡ widths → height ≡ table.height →
+      shape ≡ (length table.held.rows.items, table.held.columns) → rows ≡ table.held.rows.items → lent ≡ colors →
+      IsCompactDrawing text tells columns compact widths (texts_at texts color_at colors)
+      (drawn_of (λ held. lines_at first_line (map (λ row. map text row.items) held)) (λ _. texts_at texts color_at lent)
+      (parts_of table.config wide (λ _. height) shape) rows)
+  compact_held {C = C} texts color_at table wide height shape rows lent colors is w h s r l =
+      let drawn : (ℕ → ℕ) → ℕ → ℕ × ℕ → C → Drawing = λ size high n k. drawn_of (λ held. lines_at first_line (map (λ (row : Vec T Global). map text row.items) held))
+      (λ _. texts_at texts color_at k) (parts_of table.config size (λ _. high) n) rows in
+      let Is : Drawing → Type 0 = IsCompactDrawing text tells columns compact widths (texts_at texts color_at colors) in
+      let whole : ℕ × ℕ = (length table.held.rows.items, table.held.columns) in
+      subst (λ size. Is (drawn size height shape lent)) (sym w) (subst (λ high. Is (drawn widths high shape lent)) (sym h)
+      (subst (λ n. Is (drawn widths table.height n lent)) (sym s)
+      (subst (λ k. Is (drawn widths table.height whole k)) (sym l) (compact_drawing texts color_at colors table rows is r))))
 
   -- rows that are higher than the greatest `usize` are the rows of a drawing that is too large
   pub drawn_too_large : (color : Position → Option (List ℕ × List ℕ)) → AreRowsTooHigh tells compact →

@@ -10,6 +10,7 @@ use Rattle.papergrid_draw.specs.declared.error.DrawError.{DrawError}
 use Rattle.papergrid_grid.specs.Cells.{lines_at, text_lines}
 use Rattle.papergrid_grid.specs.Sized.{IsGridFault, drawing_of_rows, parts_of, texts_at}
 use Rattle.papergrid_grid.specs.TextRows.{IsTextDrawing}
+use Rattle.papergrid_grid.specs.declared.held.HeldTable.{HeldTable}
 use Rattle.papergrid_grid.proofs.HeldLemmas.{lines_of_texts}
 
 -- as any table
@@ -73,6 +74,21 @@ text_drawing {T = T} text texts color_at config widths heights tells count colum
       told = told;
       is = drawn_rows text_lines text texts color_at config widths heights (λ parts drawn. d ≡ drawn) count columns other_columns rows others colors n k r refl;
     }
+
+-- so is that of a table that is held, of its shape, its rows and the colours that are lent with them
+pub held_drawing : {T C K : Type 0} (text : T → List ℕ) (texts : K → List ℕ × List ℕ) (color_at : C → Position → Option K)
+    (config : SpannedConfig) (widths heights : ℕ → ℕ) (tells : List (List T) → Type 0) (columns : ℕ)
+    (held : HeldTable T) (shape : ℕ × ℕ) (rows : List (Vec T Global)) (lent colors : C) →
+    tells (map (λ row. row.items) held.rows.items) → held.columns ≡ columns →
+    shape ≡ (length held.rows.items, held.columns) → rows ≡ held.rows.items → lent ≡ colors →
+    IsTextDrawing text tells columns config widths heights (texts_at texts color_at colors)
+    (drawn_of (λ h. lines_at text_lines (map (λ row. map text row.items) h)) (λ _. texts_at texts color_at lent) (parts_of config widths heights shape) rows)
+held_drawing {T = T} {C = C} text texts color_at config widths heights tells columns held shape rows lent colors told wide s r l =
+    let drawn : ℕ × ℕ → C → Drawing = λ n k. drawn_of (λ h. lines_at text_lines (map (λ (row : Vec T Global). map text row.items) h))
+    (λ _. texts_at texts color_at k) (parts_of config widths heights n) rows in
+    let Is : Drawing → Type 0 = IsTextDrawing text tells columns config widths heights (texts_at texts color_at colors) in
+    subst (λ n. Is (drawn n lent)) (sym s) (subst (λ k. Is (drawn (length held.rows.items, held.columns) k)) (sym l)
+    (text_drawing text texts color_at config widths heights tells (length held.rows.items) held.columns columns rows held.rows.items colors refl wide r told))
 
 -- what holds of the error that a `?` returns holds of the result
 pub at_exit : {A E : Type 0} (r : Result A E) (x : E) (Q : E → Type 0) → (y : E) × (r ≡ Err y) × (y ≡ x) → Q x → IfErr r Q

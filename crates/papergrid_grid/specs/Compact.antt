@@ -27,9 +27,9 @@ module _ {C : Type 0} (tells : List (List C) → Type 0) (compact : CompactConfi
   -- what is drawn of rows of cells that are told, in so many columns, by a compact configuration
   pub record IsCompactTable (columns : ℕ) (table : CompactTable C) : Type 0 where
     pub made : HasSettingHistory (compact_settings compact) table.config
-    pub told : tells (map (λ row. row.items) table.rows.items)
-    pub has_columns : table.columns ≡ columns
-    pub has_height : length table.rows.items ≢ 0 → table.height ≡ compact_height compact
+    pub told : tells (map (λ row. row.items) table.held.rows.items)
+    pub has_columns : table.held.columns ≡ columns
+    pub has_height : length table.held.rows.items ≢ 0 → table.height ≡ compact_height compact
 
   -- there are such rows, each of which is higher than the greatest `usize`
   pub record AreRowsTooHigh : Type 0 where

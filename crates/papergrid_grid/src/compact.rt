@@ -13,7 +13,7 @@ ghost use Rattle.papergrid_grid.specs.Printed.{IsPrintFault, IsUnprinted};
 ghost use Rattle.papergrid_grid.specs.Sized.{texts_at};
 
 use crate::color::AsANSIStr;
-use crate::equal_rows::{EqualRows, LineCells, compact_table};
+use crate::equal_rows::compact_table;
 use crate::printer::{string_sized, text_sized, write_sized};
 use papergrid_config::{CompactConfig, NoColors};
 use papergrid_draw::DrawError;
@@ -130,24 +130,17 @@ where
             (texts_at C.Color.texts C.color_at self.entry.colors.now) in
             IfErr result (IsUnprinted IsDrawn F.write_str_gives writer.old writer.new) }
     {
-        let CompactGrid {
-            records,
-            config,
-            dimension,
-            colors,
-        } = self;
-        let table = compact_table(alloc, records, &config)?;
-        let cells = LineCells {
+        let table = compact_table(alloc, self.records, &self.config)?;
+        let sizes = table.sizes(self.dimension);
+        let lines = table.lines(alloc, self.colors);
+        text_sized(
             alloc,
-            rows: table.rows.as_slice(),
-            colors,
-        };
-        let sizes = EqualRows {
-            dimension,
-            height: table.height,
-        };
-        let shape = (table.rows.len(), table.columns);
-        text_sized(alloc, &table.config, &sizes, shape, &cells, writer)
+            &table.config,
+            &sizes,
+            table.held.shape(),
+            &lines,
+            writer,
+        )
     }
 
     /// Writes the picture to a sink, one line at a time: nothing of a table without rows or columns.
@@ -173,24 +166,17 @@ where
             IfErr result (IsUndrawn W.contents W.has_failed W.has_stalled IsDrawn
             (IsPrintFault IsDrawn) printed sink.old sink.new) }
     {
-        let CompactGrid {
-            records,
-            config,
-            dimension,
-            colors,
-        } = self;
-        let table = compact_table(alloc, records, &config)?;
-        let cells = LineCells {
+        let table = compact_table(alloc, self.records, &self.config)?;
+        let sizes = table.sizes(self.dimension);
+        let lines = table.lines(alloc, self.colors);
+        write_sized(
             alloc,
-            rows: table.rows.as_slice(),
-            colors,
-        };
-        let sizes = EqualRows {
-            dimension,
-            height: table.height,
-        };
-        let shape = (table.rows.len(), table.columns);
-        write_sized(alloc, &table.config, &sizes, shape, &cells, sink)
+            &table.config,
+            &sizes,
+            table.held.shape(),
+            &lines,
+            sink,
+        )
     }
 
     /// The picture: empty for a table without rows or columns.
@@ -216,23 +202,9 @@ where
             IfErr result (λ e. IsRefusal e → IsPrintFault IsDrawn e) }
         ensures works { IfErr result (λ e. e ≢ Write) }
     {
-        let CompactGrid {
-            records,
-            config,
-            dimension,
-            colors,
-        } = self;
-        let table = compact_table(alloc, records, &config)?;
-        let cells = LineCells {
-            alloc,
-            rows: table.rows.as_slice(),
-            colors,
-        };
-        let sizes = EqualRows {
-            dimension,
-            height: table.height,
-        };
-        let shape = (table.rows.len(), table.columns);
-        string_sized(alloc, &table.config, &sizes, shape, &cells)
+        let table = compact_table(alloc, self.records, &self.config)?;
+        let sizes = table.sizes(self.dimension);
+        let lines = table.lines(alloc, self.colors);
+        string_sized(alloc, &table.config, &sizes, table.held.shape(), &lines)
     }
 }

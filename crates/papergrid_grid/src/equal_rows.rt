@@ -7,7 +7,7 @@ ghost use Rattle.papergrid_grid.specs.Compact.{AreRowsTooHigh, IsCompactTable, c
 
 use crate::cells::{TextRow, color_of, text_in};
 use crate::color::AsANSIStr;
-use crate::held::held_rows;
+use crate::held::{HeldTable, held_table};
 use papergrid_config::{CompactConfig, SpannedConfig};
 use papergrid_draw::DrawError;
 use papergrid_draw::source::Cells;
@@ -113,11 +113,10 @@ fn row_height(config: &CompactConfig, rows: usize) -> Result<usize, DrawError>
     }
 }
 
-/// A configuration, the cells of each row, how many columns there are, and how high each row is.
+/// A configuration, the cells, and how high each row is.
 pub struct CompactTable<T> {
     pub config: SpannedConfig,
-    pub rows: Vec<Vec<T>>,
-    pub columns: usize,
+    pub held: HeldTable<T>,
     pub height: usize,
 }
 
@@ -126,10 +125,34 @@ impl<T: Drop> Drop for CompactTable<T> {
     fn drop(self) {
         let CompactTable {
             config: _,
-            rows: _,
-            columns: _,
+            held: _,
             height: _,
         } = self;
+    }
+}
+
+impl<T> CompactTable<T> {
+    /// The first line of each cell, with these colours.
+    pub fn lines<'s, C>(&'s self, alloc: Global, colors: &'s C) -> LineCells<'s, Vec<T>, C>
+        ensures rows { result.rows.now ≡ self.now.held.rows.items }
+        ensures colors { result.colors.now ≡ colors.now }
+    {
+        LineCells {
+            alloc,
+            rows: self.held.rows.as_slice(),
+            colors,
+        }
+    }
+
+    /// The widths of a dimension, with the height of the rows.
+    pub fn sizes<'s, D>(&self, dimension: &'s D) -> EqualRows<'s, D>
+        ensures dimension { result.dimension.now ≡ dimension.now }
+        ensures height { result.height ≡ self.now.height }
+    {
+        EqualRows {
+            dimension,
+            height: self.height,
+        }
     }
 }
 
@@ -150,14 +173,12 @@ where
     ensures fault { IfErr result (λ e. ((error : AllocError) × (e ≡ Memory error))
         ⊎ ((e ≡ TooLarge) × AreRowsTooHigh (R.tells records) config.now)) }
 {
-    let columns = records.count_columns();
     let made = SpannedConfig::from_compact(alloc, config)?;
-    let rows = held_rows(alloc, records)?;
-    let height = row_height(config, rows.len())?;
+    let held = held_table(alloc, records)?;
+    let height = row_height(config, held.rows.len())?;
     Ok(CompactTable {
         config: made,
-        rows,
-        columns,
+        held,
         height,
     })
 }

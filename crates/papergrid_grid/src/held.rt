@@ -1,8 +1,9 @@
 //! Rows of cells, held.
 
-ghost use Rattle.std.specs.Prelude.{⊤, IfOk, map};
+ghost use Rattle.std.specs.Prelude.{◌≡◌, ⊤, IfOk, length, map};
 ghost use Rattle.papergrid_text.specs.Records.{Gives, WalkIsShort};
 
+use crate::cells::TextCells;
 use papergrid_text::{IntoRecords, Records};
 use std::alloc::{AllocError, Global};
 use std::iter::{IntoIterator, Iterator};
@@ -26,7 +27,7 @@ where
 }
 
 /// The cells of each row of the records.
-pub fn held_rows<R: Records + Drop>(
+fn held_rows<R: Records + Drop>(
     alloc: Global,
     records: R,
 ) -> Result<Vec<Vec<<<R as Records>::Iter as IntoRecords>::Cell>>, AllocError>
@@ -40,4 +41,49 @@ where
         held.push(held_row(alloc, row)?)?;
     }
     Ok(held)
+}
+
+/// The cells of each row of a table, and how many columns it has.
+#[derive(Drop)]
+pub struct HeldTable<T> {
+    pub rows: Vec<Vec<T>>,
+    pub columns: usize,
+}
+
+impl<T> HeldTable<T> {
+    /// The number of rows, and that of columns.
+    pub fn shape(&self) -> (usize, usize)
+        ensures { result ≡ (length self.now.rows.items, self.now.columns) }
+    {
+        (self.rows.len(), self.columns)
+    }
+
+    /// The cells as texts, with these colours.
+    pub fn texts<'s, C>(&'s self, alloc: Global, colors: &'s C) -> TextCells<'s, Vec<T>, C>
+        ensures rows { result.rows.now ≡ self.now.rows.items }
+        ensures colors { result.colors.now ≡ colors.now }
+    {
+        TextCells {
+            alloc,
+            rows: self.rows.as_slice(),
+            colors,
+        }
+    }
+}
+
+/// The table of these records.
+pub fn held_table<R: Records + Drop>(
+    alloc: Global,
+    records: R,
+) -> Result<HeldTable<<<R as Records>::Iter as IntoRecords>::Cell>, AllocError>
+where
+    <<R as Records>::Iter as IntoRecords>::Cell: Drop,
+    requires { R.is_lawful records }
+    ensures told { IfOk result (λ held. R.tells records
+        (map (λ row. row.items) held.rows.items)) }
+    ensures columns { IfOk result (λ held. held.columns ≡ R.columns records) }
+{
+    let columns = records.count_columns();
+    let rows = held_rows(alloc, records)?;
+    Ok(HeldTable { rows, columns })
 }

@@ -12,9 +12,8 @@ ghost use Rattle.papergrid_grid.specs.Printed.{IsPrintFault, IsUnprinted};
 ghost use Rattle.papergrid_grid.specs.Sized.{texts_at};
 ghost use Rattle.papergrid_grid.specs.TextRows.{IsTextDrawing};
 
-use crate::cells::TextCells;
 use crate::color::AsANSIStr;
-use crate::held::held_rows;
+use crate::held::held_table;
 use crate::printer::{string_sized, text_sized, write_sized};
 use papergrid_config::SpannedConfig;
 use papergrid_draw::DrawError;
@@ -114,21 +113,16 @@ where
             (texts_at C.Color.texts C.color_at self.entry.colors.now) in
             IfErr result (IsUnprinted IsDrawn F.write_str_gives writer.old writer.new) }
     {
-        let IterGrid {
-            records,
-            config,
-            dimension,
-            colors,
-        } = self;
-        let columns = records.count_columns();
-        let rows = held_rows(alloc, records)?;
-        let cells = TextCells {
+        let held = held_table(alloc, self.records)?;
+        let texts = held.texts(alloc, self.colors);
+        text_sized(
             alloc,
-            rows: rows.as_slice(),
-            colors,
-        };
-        let shape = (rows.len(), columns);
-        text_sized(alloc, config, dimension, shape, &cells, writer)
+            self.config,
+            self.dimension,
+            held.shape(),
+            &texts,
+            writer,
+        )
     }
 
     /// Writes the picture to a sink, one line at a time: nothing of a table without rows or columns.
@@ -156,21 +150,16 @@ where
             IfErr result (IsUndrawn W.contents W.has_failed W.has_stalled IsDrawn
             (IsPrintFault IsDrawn) printed sink.old sink.new) }
     {
-        let IterGrid {
-            records,
-            config,
-            dimension,
-            colors,
-        } = self;
-        let columns = records.count_columns();
-        let rows = held_rows(alloc, records)?;
-        let cells = TextCells {
+        let held = held_table(alloc, self.records)?;
+        let texts = held.texts(alloc, self.colors);
+        write_sized(
             alloc,
-            rows: rows.as_slice(),
-            colors,
-        };
-        let shape = (rows.len(), columns);
-        write_sized(alloc, config, dimension, shape, &cells, sink)
+            self.config,
+            self.dimension,
+            held.shape(),
+            &texts,
+            sink,
+        )
     }
 
     /// The picture: empty for a table without rows or columns.
@@ -198,20 +187,8 @@ where
             IfErr result (λ e. IsRefusal e → IsPrintFault IsDrawn e) }
         ensures works { IfErr result (λ e. e ≢ Write) }
     {
-        let IterGrid {
-            records,
-            config,
-            dimension,
-            colors,
-        } = self;
-        let columns = records.count_columns();
-        let rows = held_rows(alloc, records)?;
-        let cells = TextCells {
-            alloc,
-            rows: rows.as_slice(),
-            colors,
-        };
-        let shape = (rows.len(), columns);
-        string_sized(alloc, config, dimension, shape, &cells)
+        let held = held_table(alloc, self.records)?;
+        let texts = held.texts(alloc, self.colors);
+        string_sized(alloc, self.config, self.dimension, held.shape(), &texts)
     }
 }

@@ -1,8 +1,9 @@
-use Rattle.std.proofs.Common.{◌≡◌, arith, length}
+use Rattle.std.proofs.Common.{◌∙◌, ap, subst, sym}
 use Rattle.std.proofs.lemmas.Result.{IfOk-weaker, err_from_is_err_and}
+use Rattle.papergrid_layout.specs.Tables.{HasSizes}
 use Rattle.papergrid_grid.specs.Compact.{IsCompactDrawing}
 use Rattle.papergrid_grid.specs.Sized.{texts_at}
-use Rattle.papergrid_grid.proofs.CompactLemmas.{compact_drawing, refused}
+use Rattle.papergrid_grid.proofs.CompactLemmas.{compact_held, refused}
 use Rattle.papergrid_grid.proofs.GridLemmas.{at_exit}
 use Rattle.papergrid_grid.proofs.PrintLemmas.{print-fault}
 use Rattle.papergrid_grid.proofs.compact.CompactGrid.to_string.Goals as goal
@@ -18,19 +19,24 @@ returns-in_err-table-clause-fault g c =
 pub returns-clause-picture : goal.returns-clause-picture
 returns-clause-picture g c =
     let grid = c.args.self in
-    let count : c.len.result ≡ length c.in_ok-table.table.rows.items = omega arith in
-    let is = compact_drawing g.R.Iter.Cell.AsStr.text (g.R.Records.tells grid.records) (g.R.Records.columns grid.records) grid.config
-    (g.D.Dimension.width_of grid.dimension.now) g.C.Color.AsANSIStr.texts g.C.Colors.color_at grid.colors.now c.in_ok-table.table _ _
-    c.in_ok-table.ensures.made count c.as_slice.ensures.value in
+    let is = compact_held g.R.Iter.Cell.AsStr.text (g.R.Records.tells grid.records) (g.R.Records.columns grid.records) grid.config
+    (g.D.Dimension.width_of grid.dimension.now) g.C.Color.AsANSIStr.texts g.C.Colors.color_at c.in_ok-table.table _ _ _ _ _ grid.colors.now
+    c.in_ok-table.ensures.made (ap g.D.Dimension.width_of c.sizes-sizes.ensures.dimension) c.sizes-sizes.ensures.height
+    c.shape.ensures c.lines-lines.ensures.rows c.lines-lines.ensures.colors in
     IfOk-weaker c.string_sized.result _ _ (λ text told. (_, is, told)) c.string_sized.ensures.picture
 
 pub returns-clause-fault : goal.returns-clause-fault
 returns-clause-fault g c =
     let grid = c.args.self in
-    let count : c.len.result ≡ length c.in_ok-table.table.rows.items = omega arith in
-    let is = compact_drawing g.R.Iter.Cell.AsStr.text (g.R.Records.tells grid.records) (g.R.Records.columns grid.records) grid.config
-    (g.D.Dimension.width_of grid.dimension.now) g.C.Color.AsANSIStr.texts g.C.Colors.color_at grid.colors.now c.in_ok-table.table _ _
-    c.in_ok-table.ensures.made count c.as_slice.ensures.value in
+    let is = compact_held g.R.Iter.Cell.AsStr.text (g.R.Records.tells grid.records) (g.R.Records.columns grid.records) grid.config
+    (g.D.Dimension.width_of grid.dimension.now) g.C.Color.AsANSIStr.texts g.C.Colors.color_at c.in_ok-table.table _ _ _ _ _ grid.colors.now
+    c.in_ok-table.ensures.made (ap g.D.Dimension.width_of c.sizes-sizes.ensures.dimension) c.sizes-sizes.ensures.height
+    c.shape.ensures c.lines-lines.ensures.rows c.lines-lines.ensures.colors in
     print-fault (IsCompactDrawing g.R.Iter.Cell.AsStr.text (g.R.Records.tells grid.records) (g.R.Records.columns grid.records) grid.config
     (g.D.Dimension.width_of grid.dimension.now) (texts_at g.C.Color.AsANSIStr.texts g.C.Colors.color_at grid.colors.now))
     _ is c.string_sized.result c.string_sized.ensures.fault
+
+pub string_sized-requires-clause-columns : goal.string_sized-requires-clause-columns
+string_sized-requires-clause-columns g c =
+    subst (λ dimension. HasSizes (g.D.Dimension.has_column dimension) c.shape.result.1) (sym c.sizes-sizes.ensures.dimension)
+    (subst (HasSizes (g.D.Dimension.has_column c.args.self.dimension.now)) (sym (ap (λ s. s.1) c.shape.ensures ∙ c.in_ok-table.ensures.made.has_columns)) c.requires.columns)
