@@ -17,8 +17,8 @@ use Rattle.papergrid_script.specs.contracts.answer.RunEndPartialEq.TheImpl as ru
 use Rattle.papergrid_script.specs.declared.reading.RunFault.{RunFault}
 use Rattle.papergrid_script.specs.declared.reading.RunFault.TheVariants.{Memory, Read, Write}
 use Rattle.papergrid_script.specs.contracts.reading.RunFaultPartialEq.TheImpl as run_fault
-use Rattle.papergrid_draw.specs.declared.transfer.Failed.{Failed}
-use Rattle.papergrid_draw.specs.contracts.transfer.FailedPartialEq.TheImpl as failed
+use Rattle.papergrid_text.specs.declared.transfer.Failed.{Failed}
+use Rattle.papergrid_text.specs.contracts.transfer.FailedPartialEq.TheImpl as failed
 
 -- ---- how sizes are chosen
 

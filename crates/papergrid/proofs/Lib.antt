@@ -1,3 +1,8 @@
+mod CompactLemmas
 mod ConfiguredLemmas
 mod EqualLemmas
+mod FirstLines
+mod GridLemmas
+mod HeldLemmas
+mod PrintLemmas
 mod RunLemmas

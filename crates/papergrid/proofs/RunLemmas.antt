@@ -7,7 +7,7 @@ use Rattle.papergrid_layout.specs.declared.sizing.Sizing.{Sizing}
 use Rattle.papergrid_draw.specs.Drawings.{Drawing}
 use Rattle.papergrid_draw.specs.declared.error.DrawError.{DrawError}
 use Rattle.papergrid_draw.specs.declared.error.DrawError.TheVariants as draw_errors
-use Rattle.papergrid_grid.specs.Lined.{lined}
+use Rattle.papergrid_draw.specs.Lined.{lined}
 use Rattle.papergrid_config.specs.Laws.{IsConfiguredBy}
 use Rattle.papergrid_script.specs.Outputs.{output_of, run_end_of}
 use Rattle.papergrid_script.specs.Runs.{HasRun, IsRunFault}
@@ -17,9 +17,10 @@ use Rattle.papergrid_script.specs.declared.answer.RunEnd.TheVariants.{Done, Refu
 use Rattle.papergrid_script.specs.declared.reading.RunFault.{RunFault}
 use Rattle.papergrid_script.specs.declared.reading.RunFault.TheVariants as run_faults
 use Rattle.papergrid.specs.Pictures.{IsPictureOf, IsPictureRun, IsTablePicture, refusal_line}
-use Rattle.papergrid_grid.specs.Pictures.{IsDrawingWith, IsFaultWith}
+use Rattle.papergrid_draw.specs.Pictures.{IsDrawingWith, IsFaultWith}
 use Rattle.papergrid.specs.ForProofs.Drawn.{IsBrokenOff, Runs}
-use Rattle.papergrid_draw.specs.Sinks.{HasEnded, IsRefusal, IsSteady, IsTaken, IsUndrawn}
+use Rattle.papergrid_text.specs.Transfer.{HasEnded, IsSteady, IsTaken}
+use Rattle.papergrid_draw.specs.Sinks.{IsRefusal, IsUndrawn}
 use Rattle.papergrid_draw.proofs.SinkLemmas.{undrawn-beginning, undrawn-steady, undrawn-write}
 
 module _ {W : Type 0} (contents : W → Option (List ℕ)) (has_failed has_stalled : W → Bool) where

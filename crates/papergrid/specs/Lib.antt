@@ -1,3 +1,7 @@
+pub mod Compact
+pub mod ForProofs
 pub mod Layouts
 pub mod Pictures
-pub mod ForProofs
+pub mod Printed
+pub mod Sized
+pub mod TextRows

@@ -4,13 +4,13 @@ use Rattle.papergrid_layout.specs.declared.sizing.Sizing.{Sizing}
 use Rattle.papergrid_draw.specs.Drawings.{Drawing}
 use Rattle.papergrid_draw.specs.declared.error.DrawError.{DrawError}
 use Rattle.papergrid_draw.specs.declared.error.DrawError.TheVariants.{Memory, NoRoom, NotTiled, OutOfTable, TooLarge, Write}
-use Rattle.papergrid_grid.specs.Lined.{lined}
+use Rattle.papergrid_draw.specs.Lined.{lined}
 use Rattle.papergrid_script.specs.Scripts.{Table, table_of}
 use Rattle.papergrid_script.specs.Texts.{newline}
 use Rattle.papergrid_script.specs.declared.answer.RunEnd.{RunEnd}
 use Rattle.papergrid_script.specs.declared.answer.RunEnd.TheVariants.{Done, Refused, BadScript}
 use Rattle.papergrid_draw.specs.Sinks.{IsRefusal}
-use Rattle.papergrid_grid.specs.Pictures.{IsDrawingBy, IsPictureFault}
+use Rattle.papergrid_draw.specs.Pictures.{IsDrawingBy, IsPictureFault}
 
 -- the line that is written of a table that has no picture; none where only an allocation or the writer failed
 abbrev pub refusal_line : DrawError → List ℕ

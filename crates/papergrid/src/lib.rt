@@ -2,17 +2,25 @@
 //! tells such a table.
 #![tactic(auto)]
 
+mod compact;
 mod drawing;
+mod equal_rows;
+mod held;
+mod holding;
+mod iterable;
 pub mod laws;
+mod peekable;
+mod printer;
 mod running;
+mod sized;
 mod table_layout;
 
 pub use drawing::{draw, run_table};
-pub use papergrid_draw::transfer::{Failed, ReadSource, Sink, Source, WriteSink};
 pub use papergrid_layout::{Sizing, Table};
 pub use papergrid_script::answer::RunEnd;
 pub use papergrid_script::explained::{Reason, explain};
 pub use papergrid_script::reading::{RunFault, read_all};
+pub use papergrid_text::transfer::{Failed, ReadSource, Sink, Source, WriteSink};
 pub use running::{run, run_keeping};
 pub use table_layout::{layout, layout_least};
 
@@ -83,24 +91,24 @@ pub mod grid {
     pub use papergrid_draw::printer::{draw_cells, draw_text, drawn_string};
     pub use papergrid_draw::separated::{settings_separate, texts_stand_apart};
     pub use papergrid_draw::source::Cells;
-    pub use papergrid_draw::{DrawError, Room};
-    pub use papergrid_grid::{
-        AsANSIStr, Junctions, RecordCells, TextCells, TextRow, draw_lines, fitted_crossings,
+    pub use papergrid_draw::{
+        AsANSIStr, DrawError, Junctions, RecordCells, Room, TextCells, TextRow, draw_lines,
+        fitted_crossings,
     };
 
     /// The printer of tables whose cells all have the same settings.
     pub mod compact {
-        pub use papergrid_grid::CompactGrid;
+        pub use crate::compact::CompactGrid;
     }
 
     /// The printer over records whose cells are texts.
     pub mod iterable {
-        pub use papergrid_grid::IterGrid;
+        pub use crate::iterable::IterGrid;
     }
 
     /// The printer over records whose cells know their lines and widths.
     pub mod peekable {
-        pub use papergrid_grid::PeekableGrid;
+        pub use crate::peekable::PeekableGrid;
     }
 }
 

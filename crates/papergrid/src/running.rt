@@ -7,10 +7,10 @@ ghost use Rattle.papergrid_script.specs.Outputs.{end_by, output_by, output_of, r
 ghost use Rattle.papergrid_script.specs.Runs.{HasRun, IsRunFault};
 ghost use Rattle.papergrid_script.specs.declared.reading.RunFault.TheVariants.{Memory, Write};
 
-use papergrid_draw::transfer::{Sink, Source, write_all};
 use papergrid_layout::Sizing;
 use papergrid_script::answer::{RunEnd, answer};
 use papergrid_script::reading::{RunFault, read_all};
+use papergrid_text::transfer::{Sink, Source, write_all};
 use std::alloc::Global;
 
 /// Reads a script to its end, and writes the sizes of its table by shares, or why it has none. Widths are in columns of a

@@ -22,12 +22,12 @@ use Rattle.papergrid_tracks.specs.declared.error.LayoutError.{LayoutError}
 use Rattle.papergrid_tracks.specs.declared.error.LayoutError.TheVariants as layout_errors
 use Rattle.papergrid_tracks.specs.declared.solution.Solved.{Solved}
 use Rattle.papergrid_draw.specs.Drawings.{Drawing, drawn_of}
-use Rattle.papergrid_grid.specs.Cells.{lines_at, text_lines}
-use Rattle.papergrid_grid.specs.Lined.{lined}
+use Rattle.papergrid_draw.specs.Cells.{lines_at, text_lines}
+use Rattle.papergrid_draw.specs.Lined.{lined}
 use Rattle.papergrid_walk.specs.Measures.{text_measure}
 use Rattle.papergrid_config.specs.Laws.{IsConfiguredBy}
-use Rattle.papergrid_grid.specs.Pictures.{IsDrawingWith, Unsized}
-use Rattle.papergrid_grid.proofs.PictureLemmas.{drawing-with, no-sizes-seen, sizes-seen}
+use Rattle.papergrid_draw.specs.Pictures.{IsDrawingWith, Unsized}
+use Rattle.papergrid_draw.proofs.PictureLemmas.{drawing-with, no-sizes-seen, sizes-seen}
 use Rattle.papergrid_builder.specs.Errors.{layout_refusal}
 use Rattle.papergrid_builder.specs.Layouts.{AreFoundSizes, IsNoFoundTable, parts_found, totals_of}
 use Rattle.papergrid_builder.specs.Pictures.{IsDrawingOf, IsNotDrawn}

@@ -64,7 +64,7 @@ impl Builder {
     ghost use Rattle.std.specs.Prelude.{◌≡◌, ◌<◌, Err, IfErr, IfOk, IfSome, OnErr, OnOk, Some, false, option_and_then, option_map, true};
     ghost use Rattle.papergrid_config.specs.declared.setting.Setting.{Setting};
     ghost use Rattle.papergrid_draw.specs.Drawings.{Drawing};
-    ghost use Rattle.papergrid_grid.specs.Lined.{lined};
+    ghost use Rattle.papergrid_draw.specs.Lined.{lined};
     ghost use Rattle.papergrid_layout.specs.declared.sizing.Sizing.{Sizing};
     ghost use Rattle.papergrid_builder.specs.Calls.{AreNoRows, GainsCell, GainsRows, GainsSetting, IsNoCell, IsNoSetting, IsNotTold, IsOutOfMemory};
     ghost use Rattle.papergrid_builder.specs.Layouts.{IsCellAnswer, IsFoundTable, IsNoFoundTable, IsPlaceAnswer, certificate_along, sizes_along, totals_of};

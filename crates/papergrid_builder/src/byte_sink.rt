@@ -2,7 +2,7 @@
 
 ghost use Rattle.std.specs.Prelude.{◌≡◌, []};
 
-use papergrid_draw::transfer::{Failed, Sink};
+use papergrid_text::transfer::{Failed, Sink};
 use std::alloc::Global;
 
 /// A sink that keeps all its bytes. A write fails where memory is refused.

@@ -2,8 +2,8 @@
 
 ghost use Rattle.std.specs.Prelude.{◌≡◌, IfErr, IfOk, length};
 ghost use Rattle.papergrid_draw.specs.Drawings.{Drawing};
-ghost use Rattle.papergrid_grid.specs.Lined.{lined};
-ghost use Rattle.papergrid_grid.specs.Pictures.{IsDrawingWith};
+ghost use Rattle.papergrid_draw.specs.Lined.{lined};
+ghost use Rattle.papergrid_draw.specs.Pictures.{IsDrawingWith};
 ghost use Rattle.papergrid_json.specs.Documents.{AreInRange};
 ghost use Rattle.papergrid_builder.specs.Pictures.{IsDrawingOf, IsNotDrawn};
 ghost use Rattle.papergrid_builder.specs.Told.{longest};
@@ -15,8 +15,7 @@ use crate::cells::CellTexts;
 use crate::error::BuilderError;
 use crate::rows::{longest_of, rows_of};
 use papergrid_config::{NoColors, Setting, SpannedConfig};
-use papergrid_draw::{DrawError, Room};
-use papergrid_grid::{TextCells, draw_lines};
+use papergrid_draw::{DrawError, Room, TextCells, draw_lines};
 use papergrid_json::configuration;
 use papergrid_layout::{Sizing, Table};
 use papergrid_text::IterRecords;

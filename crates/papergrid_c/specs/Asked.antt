@@ -6,7 +6,7 @@ use Rattle.papergrid_layout.specs.declared.rect.Place.{Place}
 use Rattle.papergrid_layout.specs.declared.sizing.Sizing.{Sizing}
 use Rattle.papergrid_layout.specs.declared.sizing.Sizing.TheVariants.{ByShares, Least}
 use Rattle.papergrid_draw.specs.Drawings.{Drawing}
-use Rattle.papergrid_grid.specs.Lined.{lined}
+use Rattle.papergrid_draw.specs.Lined.{lined}
 use Rattle.papergrid_builder.specs.Layouts.{IsCellAnswer, IsFoundTable, IsNoFoundTable, IsPlaceAnswer, certificate_along, sizes_along, totals_of}
 use Rattle.papergrid_builder.specs.Pictures.{IsDrawingOf, IsNotDrawn}
 use Rattle.papergrid_builder.specs.Told.{FoundTable, ToldTable}

@@ -14,7 +14,7 @@ use Rattle.papergrid_layout.specs.declared.sizing.Sizing.{Sizing}
 use Rattle.papergrid_layout.specs.declared.sizing.Sizing.TheVariants.{ByShares, Least}
 use Rattle.papergrid_draw.specs.Drawings.{Drawing}
 use Rattle.papergrid_draw.specs.Margins.{printed_lines}
-use Rattle.papergrid_grid.specs.Lined.{ended_lines, lined}
+use Rattle.papergrid_draw.specs.Lined.{ended_lines, lined}
 use Rattle.papergrid_walk.specs.Measures.{text_measure}
 use Rattle.papergrid_script.specs.declared.reading.RunFault.{RunFault}
 use Rattle.papergrid_script.specs.declared.reading.RunFault.TheVariants.{Memory, Read, Write}

@@ -5,10 +5,11 @@ use Rattle.std.specs.Io.KnownBytes.{Appends}
 use Rattle.std.specs.Result.{is_ok}
 use Rattle.std.proofs.KnownBytes.{Appends-nil}
 use Rattle.papergrid_draw.specs.Drawings.{Drawing}
-use Rattle.papergrid_draw.specs.Sinks.{IsTaken, IsUndrawn}
+use Rattle.papergrid_text.specs.Transfer.{IsTaken}
+use Rattle.papergrid_draw.specs.Sinks.{IsUndrawn}
 use Rattle.papergrid_draw.proofs.SinkLemmas.{undrawn-beginning}
 use Rattle.papergrid_draw.specs.declared.error.DrawError.{DrawError}
-use Rattle.papergrid_grid.specs.Lined.{lined}
+use Rattle.papergrid_draw.specs.Lined.{lined}
 use Rattle.papergrid_layout.specs.declared.sizing.Sizing.TheVariants.{ByShares}
 use Rattle.papergrid_json.specs.Documents.{AreInRange}
 use Rattle.papergrid_json.specs.Pictures.{IsDocumentDrawing, IsDocumentFault}

@@ -1,7 +1,7 @@
 -- What a caller asks of the picture of a JSON document.
 use Rattle.std.specs.Prelude.{◌≡◌, ℕ, List}
 use Rattle.papergrid_draw.specs.Drawings.{Drawing}
-use Rattle.papergrid_grid.specs.Lined.{lined}
+use Rattle.papergrid_draw.specs.Lined.{lined}
 use Rattle.papergrid_layout.specs.declared.sizing.Sizing.TheVariants.{ByShares}
 use Rattle.papergrid_json.specs.Documents.{AreInRange}
 use Rattle.papergrid_json.specs.Pictures.{IsDocumentDrawing}

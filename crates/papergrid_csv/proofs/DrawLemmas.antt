@@ -3,7 +3,8 @@ use Rattle.std.proofs.Common.{OnErr, ◌≡◌, ◌≢◌, ◌⊎◌, ℕ, Bool,
 use Rattle.std.specs.Prelude.{IfErr, OnOk}
 use Rattle.papergrid_draw.specs.declared.error.DrawError.{DrawError}
 use Rattle.papergrid_draw.specs.declared.error.DrawError.TheVariants as draw_errors
-use Rattle.papergrid_draw.specs.Sinks.{HasBegun, HasEnded, IsCutOff, IsRefusal, IsSteady}
+use Rattle.papergrid_text.specs.Transfer.{HasBegun, HasEnded, IsSteady}
+use Rattle.papergrid_draw.specs.Sinks.{IsCutOff, IsRefusal}
 use Rattle.papergrid_script.specs.declared.reading.RunFault.{RunFault}
 use Rattle.papergrid_script.specs.declared.reading.RunFault.TheVariants as run_faults
 use Rattle.papergrid_draw.proofs.SinkLemmas.{taken-none}

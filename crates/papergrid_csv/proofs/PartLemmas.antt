@@ -19,8 +19,8 @@ use Rattle.papergrid_config.specs.declared.setting.Setting.TheVariants.{InsertHo
 use Rattle.papergrid_config.specs.declared.spanned.SpannedConfig.{SpannedConfig}
 use Rattle.papergrid_tables.specs.BorderCalls as lines
 use Rattle.papergrid_tables.specs.Made.{borders_made}
-use Rattle.papergrid_grid.specs.Crossings.{SetsCrossing, corner_border}
-use Rattle.papergrid_grid.specs.declared.crossings.Junctions.{Junctions}
+use Rattle.papergrid_draw.specs.Crossings.{SetsCrossing, corner_border}
+use Rattle.papergrid_draw.specs.declared.crossings.Junctions.{Junctions}
 use Rattle.papergrid_csv.specs.Requests.{head_line, settings_of, span_settings}
 use Rattle.papergrid_csv.specs.declared.request.Request.{Request}
 use Rattle.papergrid_csv.proofs.RequestLemmas.{others, others-all, spans-all}

@@ -25,11 +25,11 @@ use Rattle.papergrid_draw.specs.Faults.{AllHaveRoom, IsDrawFault}
 use Rattle.papergrid_draw.specs.Tiles.{IsTiled}
 use Rattle.papergrid_draw.specs.declared.error.DrawError.{DrawError}
 use Rattle.papergrid_draw.specs.declared.error.DrawError.TheVariants as draw_errors
-use Rattle.papergrid_grid.specs.Crossings.{IsFitFault, bare_drawing}
-use Rattle.papergrid_grid.specs.declared.crossings.Junctions.{Junctions}
+use Rattle.papergrid_draw.specs.Crossings.{IsFitFault, bare_drawing}
+use Rattle.papergrid_draw.specs.declared.crossings.Junctions.{Junctions}
 use Rattle.papergrid_walk.specs.Measures.{text_measure}
 use Rattle.papergrid_draw.specs.Sinks.{IsRefusal}
-use Rattle.papergrid_grid.specs.Pictures.{IsFaultWith, Undrawn, Unsized, texts_drawing}
+use Rattle.papergrid_draw.specs.Pictures.{IsFaultWith, Undrawn, Unsized, texts_drawing}
 use Rattle.papergrid_csv.specs.Pictures.{AreFitted, Faulty, IsCsvRefused, IsUnfitted, IsUnpictured, Unfitted}
 use Rattle.papergrid_csv.specs.Requests.{settings_of}
 use Rattle.papergrid_csv.specs.declared.request.Request.{Request}
@@ -37,7 +37,7 @@ use Rattle.papergrid_csv.proofs.CutTextLemmas.{shown-full}
 use Rattle.papergrid_csv.proofs.PartLemmas.{crossings-none, no-spans}
 use Rattle.papergrid_csv.proofs.RowLemmas.{rows-full}
 use Rattle.papergrid_csv.proofs.TableLemmas.{HasNoSpans, none-spanned, tiled}
-use Rattle.papergrid_grid.proofs.PictureLemmas.{room-with}
+use Rattle.papergrid_draw.proofs.PictureLemmas.{room-with}
 
 -- ---- no cell overflows the table
 

@@ -15,8 +15,8 @@ use Rattle.papergrid_config.specs.declared.setting.Setting.{Setting}
 use Rattle.papergrid_config.specs.declared.setting.Setting.TheVariants.{InsertHorizontalLine, SetAlignmentHorizontal, SetAlignmentVertical, SetBorder, SetBorders, SetPadding}
 use Rattle.papergrid_config.specs.declared.spanned.SpannedConfig.{SpannedConfig}
 use Rattle.papergrid_draw.specs.Separated.{part_separates, setting_separates}
-use Rattle.papergrid_grid.specs.Crossings.{SetsCrossing, corner_border, junction}
-use Rattle.papergrid_grid.specs.declared.crossings.Junctions.{Junctions}
+use Rattle.papergrid_draw.specs.Crossings.{SetsCrossing, corner_border, junction}
+use Rattle.papergrid_draw.specs.declared.crossings.Junctions.{Junctions}
 use Rattle.papergrid_csv.specs.Pictures.{AreFitted}
 use Rattle.papergrid_csv.specs.Requests.{IsSeparating, fitting_characters, head_line, head_parts, settings_of, span_settings}
 use Rattle.papergrid_csv.specs.declared.request.Request.{Request}

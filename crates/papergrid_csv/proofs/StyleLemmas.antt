@@ -7,8 +7,8 @@ use Rattle.papergrid_values.specs.Borders.{frame_parts}
 use Rattle.papergrid_values.specs.declared.borders.Borders.{Borders}
 use Rattle.papergrid_text.specs.Separators.{is_separator}
 use Rattle.papergrid_draw.specs.Separated.{part_separates}
-use Rattle.papergrid_grid.specs.Crossings.{AreOfFrame}
-use Rattle.papergrid_grid.specs.declared.crossings.Junctions.{Junctions}
+use Rattle.papergrid_draw.specs.Crossings.{AreOfFrame}
+use Rattle.papergrid_draw.specs.declared.crossings.Junctions.{Junctions}
 use Rattle.papergrid_csv.specs.Requests.{fitting_characters}
 
 -- each part separates

@@ -25,11 +25,11 @@ use Rattle.papergrid_draw.specs.Tiles.{IsTiled}
 use Rattle.papergrid_draw.proofs.HonestLemmas.{texts-honest}
 use Rattle.papergrid_draw.proofs.SettingLemmas.{with-separators}
 use Rattle.papergrid_draw.proofs.WidthLemmas.{lines-wide}
-use Rattle.papergrid_grid.specs.declared.crossings.Junctions.{Junctions}
+use Rattle.papergrid_draw.specs.declared.crossings.Junctions.{Junctions}
 use Rattle.papergrid_walk.specs.Measures.{text_measure}
 use Rattle.papergrid_config.specs.Laws.{IsConfiguredBy}
-use Rattle.papergrid_grid.specs.Pictures.{texts_drawing}
-use Rattle.papergrid_grid.proofs.PictureLemmas.{lines-of-rows, room-with}
+use Rattle.papergrid_draw.specs.Pictures.{texts_drawing}
+use Rattle.papergrid_draw.proofs.PictureLemmas.{lines-of-rows, room-with}
 use Rattle.papergrid_csv.specs.Pictures.{AreFitted, IsCsvDrawing, table_settings, table_shape}
 use Rattle.papergrid_csv.specs.Requests.{IsSeparating, settings_of}
 use Rattle.papergrid_csv.specs.declared.request.Request.{Request}

@@ -8,12 +8,12 @@ use Rattle.papergrid_layout.specs.Places.{total_along}
 use Rattle.papergrid_draw.specs.Drawings.{Drawing, layout_of}
 use Rattle.papergrid_draw.specs.Tiles.{IsFirstPosition, IsTiled}
 use Rattle.papergrid_draw.specs.declared.error.DrawError.{DrawError}
-use Rattle.papergrid_grid.specs.Crossings.{BecomesBy, FitCrossings, IsFitFault}
-use Rattle.papergrid_grid.specs.Lined.{lined}
-use Rattle.papergrid_grid.specs.declared.crossings.Junctions.{Junctions}
+use Rattle.papergrid_draw.specs.Crossings.{BecomesBy, FitCrossings, IsFitFault}
+use Rattle.papergrid_draw.specs.Lined.{lined}
+use Rattle.papergrid_draw.specs.declared.crossings.Junctions.{Junctions}
 use Rattle.papergrid_config.specs.Laws.{IsConfiguredBy}
 use Rattle.papergrid_draw.specs.Sinks.{IsRefusal}
-use Rattle.papergrid_grid.specs.Pictures.{IsDrawingWith, IsFaultWith}
+use Rattle.papergrid_draw.specs.Pictures.{IsDrawingWith, IsFaultWith}
 use Rattle.papergrid_csv.specs.Judging.{IsFieldHidden, first_missing}
 use Rattle.papergrid_csv.specs.Requests.{first_row, settings_of}
 use Rattle.papergrid_csv.specs.Rows.{AreRowsOf, IsUnread}

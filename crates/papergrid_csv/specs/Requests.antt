@@ -14,7 +14,7 @@ use Rattle.papergrid_text.specs.Separators.{is_separator}
 use Rattle.papergrid_config.specs.declared.setting.Setting.{Setting}
 use Rattle.papergrid_config.specs.declared.setting.Setting.TheVariants.{InsertHorizontalLine, SetAlignmentHorizontal, SetAlignmentVertical, SetBorders, SetColumnSpan, SetPadding, SetRowSpan}
 use Rattle.papergrid_draw.specs.Separated.{part_separates}
-use Rattle.papergrid_grid.specs.declared.crossings.Junctions.{Junctions}
+use Rattle.papergrid_draw.specs.declared.crossings.Junctions.{Junctions}
 use Rattle.papergrid_csv.specs.Numbers.{field_in, is_numeric}
 use Rattle.papergrid_csv.specs.declared.request.Alignment.{Alignment}
 use Rattle.papergrid_csv.specs.declared.request.Alignment.TheVariants.{Auto, Fixed}

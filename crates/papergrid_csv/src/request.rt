@@ -16,7 +16,7 @@ use crate::aligned::{push_alignments, push_entries, push_setting, rows_below};
 use crate::reading::{Format, Reading, Rows};
 use crate::style::Style;
 use papergrid_config::Setting;
-use papergrid_grid::Junctions;
+use papergrid_draw::Junctions;
 use papergrid_layout::Sizing;
 use papergrid_values::{
     AlignmentHorizontal, AlignmentVertical, Borders, Entity, HorizontalLine, Indent, Position,

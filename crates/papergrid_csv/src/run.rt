@@ -7,9 +7,9 @@ ghost use Rattle.papergrid_config.specs.History.{AppendsSettings};
 ghost use Rattle.papergrid_config.specs.declared.setting.Setting.{Setting};
 ghost use Rattle.papergrid_draw.specs.Faults.{AllHaveRoom};
 ghost use Rattle.papergrid_draw.specs.declared.error.DrawError.TheVariants.{Write};
-ghost use Rattle.papergrid_grid.specs.Crossings.{FitCrossings, IsFitFault};
+ghost use Rattle.papergrid_draw.specs.Crossings.{FitCrossings, IsFitFault};
 ghost use Rattle.papergrid_draw.specs.Sinks.{IsRefusal};
-ghost use Rattle.papergrid_grid.specs.Pictures.{texts_drawing};
+ghost use Rattle.papergrid_draw.specs.Pictures.{texts_drawing};
 ghost use Rattle.papergrid_script.specs.Runs.{HasRun, IsRunFault};
 ghost use Rattle.papergrid_csv.specs.Pictures.{IsCsvRun, IsNarrow, IsWide};
 ghost use Rattle.papergrid_csv.specs.Requests.{settings_of};
@@ -24,12 +24,13 @@ use crate::shown::cut_rows;
 use bumpalo::Bump;
 use papergrid_config::laws::history_decides;
 use papergrid_config::{NoColors, Setting, SpannedConfig};
-use papergrid_draw::transfer::{Sink, Source};
-use papergrid_draw::{DrawError, Room, check_tiles};
-use papergrid_grid::{Junctions, TextCells, draw_lines, fitted_crossings};
+use papergrid_draw::{
+    DrawError, Junctions, Room, TextCells, check_tiles, draw_lines, fitted_crossings,
+};
 use papergrid_layout::Table;
 use papergrid_script::reading::{RunFault, read_all};
 use papergrid_text::IterRecords;
+use papergrid_text::transfer::{Sink, Source};
 use papergrid_values::Position;
 use std::alloc::{AllocError, Global};
 

@@ -8,7 +8,7 @@ ghost use Rattle.papergrid_draw.specs.Separated.{part_separates};
 ghost use Rattle.papergrid_csv.specs.Requests.{fitting_characters, head_parts};
 ghost use Rattle.papergrid_csv.specs.declared.style.Style.TheVariants.{Plain};
 
-use papergrid_grid::Junctions;
+use papergrid_draw::Junctions;
 use papergrid_values::{Borders, HorizontalLine};
 
 /// A style of a table.

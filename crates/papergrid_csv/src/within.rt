@@ -14,8 +14,8 @@ use crate::request::Request;
 use crate::run::{CsvEnd, draw_rows, end_unread};
 use crate::widest::widest_line;
 use bumpalo::Bump;
-use papergrid_draw::transfer::{Sink, Source};
 use papergrid_script::reading::{RunFault, read_all};
+use papergrid_text::transfer::{Sink, Source};
 use std::alloc::Global;
 
 /// Like `run_csv`, with each field cut by the greatest cut of at most so many columns by which the table is no wider than

@@ -11,9 +11,10 @@ use Rattle.papergrid_draw.specs.declared.error.DrawError.{DrawError}
 use Rattle.papergrid_draw.specs.declared.error.DrawError.TheVariants.{Memory, NoRoom, NotTiled, OutOfTable, TooLarge, Write}
 use Rattle.papergrid_draw.specs.Drawings.{Drawing}
 use Rattle.papergrid_draw.specs.Faults.{IsDrawFault}
-use Rattle.papergrid_draw.specs.Sinks.{HasBegun, HasEnded, IsCutOff, IsRefusal, IsSteady, IsTaken, IsUndrawn, WritesPicture}
+use Rattle.papergrid_text.specs.Transfer.{HasBegun, HasEnded, IsSteady, IsTaken}
+use Rattle.papergrid_draw.specs.Sinks.{IsCutOff, IsRefusal, IsUndrawn, WritesPicture}
 use Rattle.papergrid_draw.specs.ForProofs.Sinks.{IsBroken}
-use Rattle.papergrid_draw.proofs.KnownLemmas.{appends_more}
+use Rattle.papergrid_text.proofs.KnownLemmas.{appends_more}
 
 pub appends_none : (a : Option (List ℕ)) → Appends a a []
 appends_none None = tt

@@ -1,8 +1,10 @@
 -- Definitions: the drawn table.
 pub mod Bytes
+pub mod Cells
 pub mod Characters
 pub mod Colored
 pub mod Contents
+pub mod Crossings
 pub mod Deliveries
 pub mod Drawings
 pub mod Drawn
@@ -10,10 +12,11 @@ pub mod Errors
 pub mod Faults
 pub mod ForProofs
 pub mod Laws
+pub mod Lined
 pub mod Margins
+pub mod Pictures
 pub mod Pieces
 pub mod Separated
 pub mod Sinks
 pub mod Sources
 pub mod Tiles
-pub mod Transfer

@@ -1,6 +1,6 @@
 -- What a sink took of a text that was drawn to it, by what it tells of itself.
-use Rattle.std.specs.Prelude.{◌≡◌, ◌≢◌, ◌⊎◌, ⊤, ℕ, Bool, false, true, List, Option, Result, Ok, Err, take}
-use Rattle.std.specs.Io.KnownBytes.{Appends}
+use Rattle.std.specs.Prelude.{◌≡◌, ◌≢◌, ◌⊎◌, ⊤, ℕ, Bool, List, Option, Result, Ok, Err}
+use Rattle.papergrid_text.specs.Transfer.{HasBegun, HasEnded, IsSteady, IsTaken}
 use Rattle.papergrid_draw.specs.Drawings.{Drawing}
 use Rattle.papergrid_draw.specs.declared.error.DrawError.{DrawError}
 use Rattle.papergrid_draw.specs.declared.error.DrawError.TheVariants.{Memory, Write}
@@ -12,30 +12,12 @@ IsRefusal Write = ⊥
 IsRefusal e = ⊤
 
 module _ {W : Type 0} (contents : W → Option (List ℕ)) (has_failed has_stalled : W → Bool) where
-  -- all the bytes were taken. Whether a write has failed, and whether one took nothing, is as before
-  pub record IsTaken (old : W) (bytes : List ℕ) (new : W) : Type 0 where
-    pub bytes_are : Appends (contents old) (contents new) bytes
-    pub works : has_failed new ≡ has_failed old
-    pub moves : has_stalled new ≡ has_stalled old
-
-  -- a beginning of them was taken
-  abbrev pub HasBegun : W → List ℕ → W → Type 0
-  HasBegun old bytes new = (n : ℕ) × Appends (contents old) (contents new) (take n bytes)
-
-  -- what can be known of a sink that did not take all
-  abbrev pub HasEnded : W → W → Type 0
-  HasEnded old new = (has_failed new ≡ true) ⊎ (has_stalled old ≡ false → has_stalled new ≡ true)
-
-  -- whether a write has failed, and whether one took nothing, is as before
-  abbrev pub IsSteady : W → W → Type 0
-  IsSteady old new = (has_failed new ≡ has_failed old) × (has_stalled new ≡ has_stalled old)
-
   -- the sink after an error: as it was where the table is refused, else it took a beginning of the bytes
   pub record IsCutOff (old : W) (bytes : List ℕ) (new : W) (e : DrawError) : Type 0 where
     pub nothing : IsRefusal e → new ≡ old
-    pub beginning : HasBegun old bytes new
-    pub write : e ≡ Write → HasEnded old new
-    pub steady : (e ≡ Write) ⊎ IsSteady old new
+    pub beginning : HasBegun contents has_failed has_stalled old bytes new
+    pub write : e ≡ Write → HasEnded contents has_failed has_stalled old new
+    pub steady : (e ≡ Write) ⊎ IsSteady contents has_failed has_stalled old new
 
   module _ (IsDrawn : Drawing → Type 0) (IsFault : DrawError → Type 0) (text_of : Drawing → List ℕ) where
     -- why there is no picture, and the sink after that: as it was, as always after a refusal, or with a beginning of a
@@ -47,5 +29,5 @@ module _ {W : Type 0} (contents : W → Option (List ℕ)) (has_failed has_stall
 
     -- the text of such a drawing was taken, or why it was not
     abbrev pub WritesPicture : {A : Type 0} → W → W → Result A DrawError → Type 0
-    WritesPicture old new (Ok x) = (d : Drawing) × IsDrawn d × IsTaken old (text_of d) new
+    WritesPicture old new (Ok x) = (d : Drawing) × IsDrawn d × IsTaken contents has_failed has_stalled old (text_of d) new
     WritesPicture old new (Err e) = IsUndrawn old new e

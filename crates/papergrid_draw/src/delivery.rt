@@ -2,9 +2,9 @@
 
 ghost use Rattle.std.specs.Prelude.{ℕ, List, OnErr, OnOk, ⊤};
 ghost use Rattle.papergrid_draw.specs.ForProofs.Sinks.{IsBroken};
-ghost use Rattle.papergrid_draw.specs.Sinks.{IsTaken};
+ghost use Rattle.papergrid_text.specs.Transfer.{IsTaken};
 
-use crate::transfer::{Failed, Sink, write_all};
+use papergrid_text::transfer::{Failed, Sink, write_all};
 use std::fmt;
 
 /// A way to deliver a text to a writer.

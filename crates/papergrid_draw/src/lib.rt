@@ -3,10 +3,14 @@
 
 mod blanks;
 mod block;
+pub mod cells;
 mod characters;
+mod color;
+mod crossings;
 mod delivery;
 mod error;
 pub mod laws;
+mod lines;
 mod look;
 mod margins;
 mod page;
@@ -21,8 +25,11 @@ mod sheet;
 pub mod source;
 mod spanned;
 mod tiles;
-pub mod transfer;
 
+pub use cells::{RecordCells, TextCells, TextRow};
+pub use color::AsANSIStr;
+pub use crossings::{Junctions, fitted_crossings};
 pub use error::DrawError;
+pub use lines::draw_lines;
 pub use room::Room;
 pub use tiles::check_tiles;

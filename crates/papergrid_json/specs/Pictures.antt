@@ -11,7 +11,7 @@ use Rattle.papergrid_draw.specs.Drawings.{Drawing}
 use Rattle.papergrid_draw.specs.Errors.{draw_error_of}
 use Rattle.papergrid_draw.specs.Faults.{IsDrawFault}
 use Rattle.papergrid_draw.specs.declared.error.DrawError.{DrawError}
-use Rattle.papergrid_grid.specs.Cells.{lines_at, text_lines}
+use Rattle.papergrid_draw.specs.Cells.{lines_at, text_lines}
 use Rattle.papergrid_walk.specs.Measures.{text_measure}
 use Rattle.papergrid_config.specs.Laws.{IsConfiguredBy}
 use Rattle.papergrid_json.specs.declared.document.Document.{Document}

@@ -3,8 +3,9 @@
 ghost use Rattle.std.specs.Prelude.{◌≡◌, IfErr, IfOk, None, OnOk};
 ghost use Rattle.papergrid_draw.specs.declared.room.Room.TheVariants.{Known};
 ghost use Rattle.papergrid_draw.specs.Drawings.{Drawing};
-ghost use Rattle.papergrid_draw.specs.Sinks.{IsTaken, IsUndrawn, WritesPicture};
-ghost use Rattle.papergrid_grid.specs.Lined.{lined};
+ghost use Rattle.papergrid_text.specs.Transfer.{IsTaken};
+ghost use Rattle.papergrid_draw.specs.Sinks.{IsUndrawn, WritesPicture};
+ghost use Rattle.papergrid_draw.specs.Lined.{lined};
 ghost use Rattle.papergrid_layout.specs.Answers.{UnlessMemory};
 ghost use Rattle.papergrid_config.specs.Laws.{IsConfiguredBy};
 ghost use Rattle.papergrid_json.specs.Documents.{AreInRange};
@@ -13,11 +14,10 @@ ghost use Rattle.papergrid_json.specs.Pictures.{IsDocumentDrawing, IsDocumentFau
 use crate::document::Document;
 use papergrid_config::laws::history_decides;
 use papergrid_config::{Setting, SpannedConfig};
-use papergrid_draw::transfer::Sink;
-use papergrid_draw::{DrawError, Room};
-use papergrid_grid::{TextCells, draw_lines};
+use papergrid_draw::{DrawError, Room, TextCells, draw_lines};
 use papergrid_layout::{LayoutError, Sizing, Table};
 use papergrid_text::IterRecords;
+use papergrid_text::transfer::Sink;
 use std::alloc::{AllocError, Global};
 
 /// Writes the picture of a document, each line with a line feed: nothing where there are no rows or columns. The widths and heights

@@ -1,6 +1,6 @@
 -- What a run leaves, by what reading its input and writing its output leave.
 use Rattle.std.proofs.Common.{◌≡◌, ◌≢◌, ◌⊎◌, ◌∙◌, ℕ, Bool, false, true, List, Option, Vec, Global, inl, inr, refl}
-use Rattle.papergrid_draw.specs.Sinks.{HasEnded, IsSteady}
+use Rattle.papergrid_text.specs.Transfer.{HasEnded, IsSteady}
 use Rattle.papergrid_script.specs.Inputs.{IsWholeInput}
 use Rattle.papergrid_script.specs.Runs.{HasRun, IsRunFault}
 use Rattle.papergrid_script.specs.declared.reading.RunFault.{RunFault}

@@ -1,7 +1,7 @@
 -- What a run leaves of its reader and its writer, and of the vector that keeps its input, apart from what it writes.
 use Rattle.std.specs.Prelude.{◌≡◌, ◌⊎◌, ℕ, Bool, false, true, List, Option, Vec}
 use Rattle.std.specs.declared.alloc.Global.{Global}
-use Rattle.papergrid_draw.specs.Sinks.{HasEnded}
+use Rattle.papergrid_text.specs.Transfer.{HasEnded}
 use Rattle.papergrid_script.specs.Inputs.{IsWholeInput}
 use Rattle.papergrid_script.specs.declared.reading.RunFault.{RunFault}
 use Rattle.papergrid_script.specs.declared.reading.RunFault.TheVariants.{Memory, Read, Write}

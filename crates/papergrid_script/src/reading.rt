@@ -4,7 +4,7 @@ ghost use Rattle.std.specs.Prelude.{◌≡◌, true, IfOk, IfSome, OnOk, IsErrOf
 ghost use Rattle.std.specs.Io.KnownBytes.{Consumes, IsAtEnd};
 ghost use Rattle.papergrid_script.specs.declared.reading.RunFault.TheVariants.{Memory};
 
-use papergrid_draw::transfer::Source;
+use papergrid_text::transfer::Source;
 use std::alloc::{AllocError, Global};
 use thiserror::Error;
 

@@ -3,6 +3,7 @@ pub mod Compared
 pub mod Counts
 pub mod Cuts
 pub mod JoinedLemmas
+pub mod KnownLemmas
 pub mod Lanes
 pub mod LineCacheClones
 pub mod Nth

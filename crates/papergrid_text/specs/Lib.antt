@@ -1,5 +1,6 @@
 pub mod Counted
 pub mod Cut
+pub mod ForProofs
 pub mod Held
 pub mod HeldRows
 pub mod LineCache
@@ -10,4 +11,4 @@ pub mod Rows
 pub mod Separators
 pub mod Text
 pub mod TextOrder
-pub mod ForProofs
+pub mod Transfer

@@ -15,6 +15,7 @@ pub mod records;
 pub mod search;
 pub mod string;
 pub mod text;
+pub mod transfer;
 pub mod vec_records;
 pub mod width;
 

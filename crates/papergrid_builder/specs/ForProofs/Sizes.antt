@@ -6,7 +6,7 @@ use Rattle.papergrid_layout.specs.declared.sizing.Sizing.{Sizing}
 use Rattle.papergrid_tracks.specs.declared.error.LayoutError.TheVariants as layout_errors
 use Rattle.papergrid_draw.specs.declared.error.DrawError.TheVariants as draw_errors
 use Rattle.papergrid_walk.specs.Measures.{text_measure}
-use Rattle.papergrid_grid.specs.Pictures.{IsFaultWith}
+use Rattle.papergrid_draw.specs.Pictures.{IsFaultWith}
 use Rattle.papergrid_builder.specs.Told.{longest}
 use Rattle.papergrid_builder.specs.declared.error.BuilderError.{BuilderError}
 use Rattle.papergrid_builder.specs.declared.error.BuilderError.TheVariants.{Memory, NotTiled, OutOfTable, TooLarge}

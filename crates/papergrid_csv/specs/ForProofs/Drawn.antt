@@ -5,16 +5,17 @@ use Rattle.papergrid_values.specs.declared.position.Position.{Position}
 use Rattle.papergrid_config.specs.declared.setting.Setting.{Setting}
 use Rattle.papergrid_config.specs.declared.spanned.SpannedConfig.{SpannedConfig}
 use Rattle.papergrid_layout.specs.Places.{total_along}
-use Rattle.papergrid_draw.specs.Sinks.{HasBegun, HasEnded, IsRefusal, IsSteady, IsTaken}
+use Rattle.papergrid_text.specs.Transfer.{HasBegun, HasEnded, IsSteady, IsTaken}
+use Rattle.papergrid_draw.specs.Sinks.{IsRefusal}
 use Rattle.papergrid_draw.specs.Drawings.{Drawing, layout_of}
 use Rattle.papergrid_draw.specs.Faults.{IsDrawFault}
 use Rattle.papergrid_draw.specs.Tiles.{IsFirstPosition, IsTiled}
 use Rattle.papergrid_draw.specs.declared.error.DrawError.{DrawError}
 use Rattle.papergrid_draw.specs.declared.error.DrawError.TheVariants as draw_errors
-use Rattle.papergrid_grid.specs.Crossings.{FitCrossings, IsFitFault}
-use Rattle.papergrid_grid.specs.Lined.{lined}
-use Rattle.papergrid_grid.specs.declared.crossings.Junctions.{Junctions}
-use Rattle.papergrid_grid.specs.Pictures.{IsDrawingWith, IsFaultWith}
+use Rattle.papergrid_draw.specs.Crossings.{FitCrossings, IsFitFault}
+use Rattle.papergrid_draw.specs.Lined.{lined}
+use Rattle.papergrid_draw.specs.declared.crossings.Junctions.{Junctions}
+use Rattle.papergrid_draw.specs.Pictures.{IsDrawingWith, IsFaultWith}
 use Rattle.papergrid_script.specs.declared.reading.RunFault.{RunFault}
 use Rattle.papergrid_script.specs.declared.reading.RunFault.TheVariants as run_faults
 use Rattle.papergrid_csv.specs.Judging.{IsFieldHidden, first_missing}

@@ -1,8 +1,8 @@
 use Rattle.papergrid_text.specs.HeldRows.{column_count}
 use Rattle.papergrid_draw.specs.Margins.{printed}
 use Rattle.papergrid_draw.proofs.SinkLemmas.{draws-also, picture-undrawn, picture-written}
-use Rattle.papergrid_grid.specs.Pictures.{IsDrawingBy, IsDrawingWith, IsFaultWith, IsPictureFault, texts_held}
-use Rattle.papergrid_grid.proofs.PictureLemmas.{drawn-by-settings, fault-by-settings, picture-has-room}
+use Rattle.papergrid_draw.specs.Pictures.{IsDrawingBy, IsDrawingWith, IsFaultWith, IsPictureFault, texts_held}
+use Rattle.papergrid_draw.proofs.PictureLemmas.{drawn-by-settings, fault-by-settings, picture-has-room}
 use Rattle.papergrid.proofs.drawing.draw.Goals as goal
 
 pub returns-clause-picture : goal.returns-clause-picture

@@ -3,8 +3,8 @@ use Rattle.std.proofs.lemmas.Result.{err_from_is_err_and}
 use Rattle.papergrid_text.proofs.RowSteps.{told_by}
 use Rattle.papergrid_text.specs.HeldRows.{column_count, rows_held}
 use Rattle.papergrid_draw.specs.Margins.{printed}
-use Rattle.papergrid_grid.specs.Pictures.{texts_held}
-use Rattle.papergrid_grid.proofs.PictureLemmas.{drawing-with, drawn-so, no-sizes-seen, room-with, sizes-seen, unless-also, unsized}
+use Rattle.papergrid_draw.specs.Pictures.{texts_held}
+use Rattle.papergrid_draw.proofs.PictureLemmas.{drawing-with, drawn-so, no-sizes-seen, room-with, sizes-seen, unless-also, unsized}
 use Rattle.papergrid.proofs.drawing.draw_records.Goals as goal
 
 pub returns-in_err-table : goal.returns-in_err-table

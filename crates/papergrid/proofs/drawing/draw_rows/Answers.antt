@@ -2,10 +2,10 @@ use Rattle.std.proofs.Common.{◌∙◌, ap, map, refl, subst}
 use Rattle.std.proofs.lemmas.Result.{err_from_is_err_and}
 use Rattle.papergrid_text.proofs.RowSteps.{told_by}
 use Rattle.papergrid_layout.specs.Tables.{AreNoSizesBySizing, AreSizesBySizing}
-use Rattle.papergrid_grid.specs.Lined.{lined}
+use Rattle.papergrid_draw.specs.Lined.{lined}
 use Rattle.papergrid_walk.specs.Measures.{text_measure}
 use Rattle.papergrid_script.specs.Seen.{row_texts_of, rows_seen}
-use Rattle.papergrid_grid.proofs.PictureLemmas.{drawing-with, drawn-so, no-sizes-seen, room-with, sizes-seen, unless-also, unsized}
+use Rattle.papergrid_draw.proofs.PictureLemmas.{drawing-with, drawn-so, no-sizes-seen, room-with, sizes-seen, unless-also, unsized}
 use Rattle.papergrid.proofs.drawing.draw_rows.Goals as goal
 
 pub returns-in_err-table : goal.returns-in_err-table

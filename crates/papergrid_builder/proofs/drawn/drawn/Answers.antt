@@ -1,6 +1,6 @@
 use Rattle.std.proofs.Common.{◌≡◌, ◌∙◌, IfErr, IfOk, ap, subst}
 use Rattle.papergrid_draw.specs.Drawings.{Drawing}
-use Rattle.papergrid_grid.specs.Lined.{lined}
+use Rattle.papergrid_draw.specs.Lined.{lined}
 use Rattle.papergrid_builder.specs.Pictures.{IsDrawingOf, IsNotDrawn}
 use Rattle.papergrid_builder.specs.ForProofs.Texts.{rows_lent, rows_told, texts_lent}
 use Rattle.papergrid_builder.proofs.DrawLemmas.{drawn-told, undrawn-told}

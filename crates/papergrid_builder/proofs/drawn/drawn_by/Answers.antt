@@ -3,10 +3,10 @@ use Rattle.std.proofs.lemmas.Result.{err_from_is_err_and}
 use Rattle.papergrid_text.proofs.RowSteps.{told_by}
 use Rattle.papergrid_layout.specs.Tables.{AreNoSizesBySizing}
 use Rattle.papergrid_draw.specs.Faults.{IsDrawFault}
-use Rattle.papergrid_grid.specs.Lined.{lined}
+use Rattle.papergrid_draw.specs.Lined.{lined}
 use Rattle.papergrid_walk.specs.Measures.{text_measure}
-use Rattle.papergrid_grid.specs.Pictures.{Undrawn}
-use Rattle.papergrid_grid.proofs.PictureLemmas.{no-sizes-seen, room-with, unless-also}
+use Rattle.papergrid_draw.specs.Pictures.{Undrawn}
+use Rattle.papergrid_draw.proofs.PictureLemmas.{no-sizes-seen, room-with, unless-also}
 use Rattle.papergrid_builder.specs.Told.{longest}
 use Rattle.papergrid_builder.specs.ForProofs.Texts.{rows_lent}
 use Rattle.papergrid_builder.proofs.DrawLemmas.{drawing-lent, is-drawing, undrawn-unsized}

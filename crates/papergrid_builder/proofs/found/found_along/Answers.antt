@@ -1,7 +1,7 @@
 use Rattle.std.proofs.Common.{◌∙◌, ap, map}
 use Rattle.std.proofs.lemmas.Result.{err_from_is_err_and}
 use Rattle.papergrid_text.proofs.RowSteps.{told_by}
-use Rattle.papergrid_grid.proofs.PictureLemmas.{unless-also}
+use Rattle.papergrid_draw.proofs.PictureLemmas.{unless-also}
 use Rattle.papergrid_builder.specs.ForProofs.Texts.{rows_lent}
 use Rattle.papergrid_builder.proofs.DrawLemmas.{found-told, no-sizes, unfound-unsized}
 use Rattle.papergrid_builder.proofs.found.found_along.Goals as goal

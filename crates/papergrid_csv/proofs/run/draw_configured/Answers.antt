@@ -3,8 +3,8 @@ use Rattle.papergrid_text.proofs.RowSteps.{told_by}
 use Rattle.papergrid_layout.specs.Tables.{AreNoSizesBySizing, AreSizesBySizing}
 use Rattle.papergrid_draw.specs.Drawings.{Drawing}
 use Rattle.papergrid_walk.specs.Measures.{text_measure}
-use Rattle.papergrid_grid.specs.Pictures.{texts_drawing}
-use Rattle.papergrid_grid.proofs.PictureLemmas.{drawing-with, no-sizes-seen, room-with, sizes-seen, unless-also}
+use Rattle.papergrid_draw.specs.Pictures.{texts_drawing}
+use Rattle.papergrid_draw.proofs.PictureLemmas.{drawing-with, no-sizes-seen, room-with, sizes-seen, unless-also}
 use Rattle.papergrid_csv.specs.Rows.{row_texts}
 use Rattle.papergrid_csv.specs.ForProofs.Drawn.{IsConfigRun, IsTableRun, Sized}
 use Rattle.papergrid_csv.proofs.DrawLemmas.{runs-also}

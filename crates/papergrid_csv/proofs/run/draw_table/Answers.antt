@@ -2,8 +2,8 @@ use Rattle.std.proofs.Common.{ap, map, refl, subst, sym}
 use Rattle.papergrid_config.specs.Grids.{spanned_grid}
 use Rattle.papergrid_draw.specs.Drawings.{Drawing, layout_of}
 use Rattle.papergrid_draw.specs.Tiles.{IsTileFault, IsTiled}
-use Rattle.papergrid_grid.specs.Lined.{lined}
-use Rattle.papergrid_grid.specs.Pictures.{texts_drawing}
+use Rattle.papergrid_draw.specs.Lined.{lined}
+use Rattle.papergrid_draw.specs.Pictures.{texts_drawing}
 use Rattle.papergrid_csv.specs.Pictures.{IsNarrow}
 use Rattle.papergrid_csv.specs.Rows.{row_texts}
 use Rattle.papergrid_csv.specs.ForProofs.Drawn.{IsTableRun}

@@ -1,8 +1,8 @@
 use Rattle.std.proofs.lemmas.Result.{err_from_is_err_and}
 use Rattle.papergrid_draw.specs.Errors.{draw_error_of}
 use Rattle.papergrid_draw.proofs.SinkLemmas.{draws-none, draws-so}
-use Rattle.papergrid_grid.specs.Lined.{lined}
-use Rattle.papergrid_grid.proofs.PictureLemmas.{no-write}
+use Rattle.papergrid_draw.specs.Lined.{lined}
+use Rattle.papergrid_draw.proofs.PictureLemmas.{no-write}
 use Rattle.papergrid_json.specs.Pictures.{IsDocumentDrawingWith, IsDocumentFaultWith, Undrawn}
 use Rattle.papergrid_json.proofs.DrawLemmas.{drawing-by, room-found, unsized}
 use Rattle.papergrid_json.proofs.drawing.draw_by.Goals as goal

@@ -1,5 +1,5 @@
 use Rattle.papergrid_draw.proofs.SinkLemmas.{draws-also, picture-undrawn, picture-written}
-use Rattle.papergrid_grid.specs.Lined.{lined}
+use Rattle.papergrid_draw.specs.Lined.{lined}
 use Rattle.papergrid_json.specs.Pictures.{IsDocumentDrawing, IsDocumentDrawingWith, IsDocumentFault, IsDocumentFaultWith}
 use Rattle.papergrid_json.proofs.DrawLemmas.{drawn-by-settings, fault-by-settings}
 use Rattle.papergrid_json.proofs.drawing.draw_document.Goals as goal

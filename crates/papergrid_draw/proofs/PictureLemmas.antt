@@ -1,0 +1,176 @@
+-- The sizes of cells that are seen through a view, and what is drawn with them.
+use Rattle.std.proofs.Common.{◌≡◌, ◌≢◌, ◌∙◌, ℕ, Bool, List, [], Option, None, Some, Result, Ok, Err, OnOk, IfErr, map, ap, inl, inr, refl, subst, sym}
+use Rattle.std.specs.Prelude.{option_and_then, slice_get, slice_index_or}
+use Rattle.std.proofs.lemmas.Option.{get_or_from_slice_get, slice_get-get_or, slice_get_cases}
+use Rattle.papergrid_values.specs.declared.position.Position.{Position}
+use Rattle.papergrid_values.specs.declared.direction.Direction.TheVariants.{Columns, Rows}
+use Rattle.papergrid_tracks.specs.Answers.{AreSizes, AreSizesTooLarge}
+use Rattle.papergrid_tracks.specs.Fits.{Fits}
+use Rattle.papergrid_tracks.specs.LeastAnswers.{AreLeastSizes, AreLeastTooLarge}
+use Rattle.papergrid_tracks.specs.Problem.{Problem}
+use Rattle.papergrid_tracks.specs.declared.error.LayoutError.{LayoutError}
+use Rattle.papergrid_tracks.specs.declared.error.LayoutError.TheVariants as layout_errors
+use Rattle.papergrid_config.specs.Grids.{spanned_grid}
+use Rattle.papergrid_config.specs.declared.setting.Setting.{Setting}
+use Rattle.papergrid_config.specs.declared.spanned.SpannedConfig.{SpannedConfig}
+use Rattle.papergrid_walk.specs.Cells.{problem_of}
+use Rattle.papergrid_layout.specs.Answers.{HoldAlong, IsBothRefusedWhere}
+use Rattle.papergrid_layout.specs.Laws.{RowHasCell}
+use Rattle.papergrid_layout.specs.declared.sizing.Sizing.{Sizing}
+use Rattle.papergrid_layout.specs.declared.sizing.Sizing.TheVariants.{ByShares, Least}
+use Rattle.papergrid_layout.proofs.Told.{first_told, problem_told}
+use Rattle.papergrid_layout.specs.Answers.{UnlessMemoryError}
+use Rattle.papergrid_layout.specs.Tables.{AreNoSizesBySizing, AreSizesBySizing, TableParts}
+use Rattle.papergrid_draw.specs.Contents.{lines_of}
+use Rattle.papergrid_draw.specs.Drawings.{Drawing, drawn_of}
+use Rattle.papergrid_draw.specs.Errors.{draw_error_of}
+use Rattle.papergrid_draw.specs.Faults.{AllHaveRoom, IsDrawFault}
+use Rattle.papergrid_draw.specs.Laws.{AreLinesAt}
+use Rattle.papergrid_draw.proofs.EstimateLemmas.{texts-leave-room}
+use Rattle.papergrid_draw.specs.declared.error.DrawError.{DrawError}
+use Rattle.papergrid_draw.specs.declared.error.DrawError.TheVariants as draw_errors
+use Rattle.papergrid_walk.specs.Measures.{text_measure}
+use Rattle.papergrid_draw.specs.Cells.{lines_at, text_lines}
+use Rattle.papergrid_config.specs.Laws.{IsConfiguredBy}
+use Rattle.papergrid_draw.specs.Pictures.{IsDrawingBy, IsDrawingWith, IsFaultWith, IsPictureFault, Undrawn, Unsized, texts_drawing}
+use Rattle.papergrid_text.specs.Transfer.{IsTaken}
+use Rattle.papergrid_draw.specs.Sinks.{IsCutOff, IsRefusal, IsUndrawn, WritesPicture}
+use Rattle.papergrid_draw.proofs.SinkLemmas.{draws-none, draws-so}
+
+module _ {A : Type 0} (view : A → List ℕ) (config : SpannedConfig) (columns : ℕ) (cells : List (List A)) (texts : List (List (List ℕ)))
+    (same : map (map view) cells ≡ texts) where
+  along-seen : {B : Type 0} (holds : Problem → B → Type 0) (across down : B) →
+      HoldAlong (spanned_grid config) (λ x. text_measure (view x)) columns cells holds across down → HoldAlong (spanned_grid config) text_measure columns texts holds across down
+  along-seen holds across down are = record {
+    widths = subst (λ problem. holds problem across) (problem_told (spanned_grid config) view text_measure cells texts same Columns columns) are.widths;
+    heights = subst (λ problem. holds problem down) (problem_told (spanned_grid config) view text_measure cells texts same Rows columns) are.heights;
+  }
+
+  -- sizes that are chosen so
+  pub sizes-seen : (sizing : Sizing) (widths heights : List ℕ) → AreSizesBySizing config (λ x. text_measure (view x)) columns cells sizing widths heights →
+      AreSizesBySizing config text_measure columns texts sizing widths heights
+  sizes-seen ByShares widths heights are = along-seen AreSizes widths heights are
+  sizes-seen Least widths heights are = along-seen AreLeastSizes widths heights are
+
+  refused-seen : (too_large : Problem → Type 0) (e : LayoutError) → IsBothRefusedWhere (spanned_grid config) (λ x. text_measure (view x)) columns cells too_large e →
+      IsBothRefusedWhere (spanned_grid config) text_measure columns texts too_large e
+  refused-seen too_large (layout_errors.OutOfTable p) is = sym (first_told (spanned_grid config) view text_measure cells texts same columns) ∙ is
+  refused-seen too_large layout_errors.TooLarge is = (
+    sym (first_told (spanned_grid config) view text_measure cells texts same columns) ∙ is.0,
+    elim is.1 [
+      | inl wide ↦ inl (subst too_large (problem_told (spanned_grid config) view text_measure cells texts same Columns columns) wide)
+      | inr high ↦ inr (subst too_large (problem_told (spanned_grid config) view text_measure cells texts same Rows columns) high)
+    ],
+  )
+  refused-seen too_large (layout_errors.Memory e) is = tt
+
+  -- why there are none
+  pub no-sizes-seen : (sizing : Sizing) (e : LayoutError) → AreNoSizesBySizing config (λ x. text_measure (view x)) columns cells sizing e →
+      AreNoSizesBySizing config text_measure columns texts sizing e
+  no-sizes-seen ByShares e is = refused-seen AreSizesTooLarge e is
+  no-sizes-seen Least e is = refused-seen AreLeastTooLarge e is
+
+-- the lines at a position are those of the text that the rows have there
+pub lines-of-rows : (texts : List (List (List ℕ))) (p : Position) → AreLinesAt (λ text. text) texts p (lines_at text_lines texts p)
+lines-of-rows texts p = record {
+  of_cell = λ cell is.
+      ap in-row (slice_get-get_or texts p.row [] is.0)
+      ∙ ap (lines_of text_lines) (slice_get-get_or (slice_index_or texts p.row []) p.col cell is.1.0 ∙ ap Some is.1.1);
+  of_none = λ none. elim (slice_get_cases texts p.row).1 [
+    | inl at ↦ ap in-row at.2 ∙ (elim (slice_get_cases at.0 p.col).1 [
+      | inl found ↦ absurd (none found.0 (at.1, subst (λ row. RowHasCell row p.col found.0) (sym (get_or_from_slice_get texts p.row at.0 [] at.2)) (found.1, found.3)))
+      | inr past ↦ ap (lines_of text_lines) past.1
+    ])
+    | inr past ↦ ap in-row past.1
+  ];
+}
+  where
+    in-row : Option (List (List ℕ)) → List (List ℕ × ℕ)
+    in-row row = lines_of text_lines (option_and_then (λ cells. slice_get cells p.col) row)
+
+-- what follows from what holds unless an allocation failed
+pub unless-also : (e : LayoutError) {P Q : Type 0} → (P → Q) → UnlessMemoryError e P → UnlessMemoryError e Q
+unless-also (layout_errors.OutOfTable p) follows is = follows is
+unless-also layout_errors.TooLarge follows is = follows is
+unless-also (layout_errors.Memory e) follows is = tt
+
+-- the drawing of rows of texts that are lent, by a table of such sizes
+pub drawing-with : {R : Type 0} (texts : R → List (List ℕ)) (parts : TableParts) (config : SpannedConfig) (columns : ℕ) (sizing : Sizing) (lent held : List R) →
+    parts.config ≡ config → lent ≡ held → AreSizesBySizing config text_measure columns (map texts held) sizing parts.widths parts.heights →
+    IsDrawingWith columns (map texts held) sizing config (drawn_of (λ rows. lines_at text_lines (map texts rows)) (λ _ _. None) parts lent)
+drawing-with texts parts config columns sizing lent held same_config same_rows sized = record {
+  widths = parts.widths;
+  heights = parts.heights;
+  sized = sized;
+  is = λ i. texts_drawing (same_config i) (map texts (same_rows i)) parts.widths parts.heights;
+}
+
+-- sizes that are chosen so have room
+fits-by : (config : SpannedConfig) (columns : ℕ) (texts : List (List (List ℕ))) (sizing : Sizing) (widths heights : List ℕ) →
+    AreSizesBySizing config text_measure columns texts sizing widths heights → Fits (problem_of (spanned_grid config) text_measure columns texts Columns) widths
+fits-by config columns texts ByShares widths heights are = are.widths.fits
+fits-by config columns texts Least widths heights are = are.widths.least.fits
+
+-- so each visible cell has room in a drawing with them, whatever the colours are
+pub room-in : (config : SpannedConfig) (columns : ℕ) (texts : List (List (List ℕ))) (sizing : Sizing) (widths heights : List ℕ) (color : Position → Option (List ℕ × List ℕ)) →
+    AreSizesBySizing config text_measure columns texts sizing widths heights → AllHaveRoom (record (texts_drawing config texts widths heights) { color = color })
+room-in config columns texts sizing widths heights color sized =
+    let fits = fits-by config columns texts sizing widths heights sized in
+    let counted = subst (λ n. Fits (problem_of (spanned_grid config) text_measure n texts Columns) widths) (sym fits.one_each) fits in
+    texts-leave-room (record (texts_drawing config texts widths heights) { color = color }) (λ text. text) texts widths refl counted (λ p cell. lines-of-rows texts p)
+
+pub room-with : (columns : ℕ) (texts : List (List (List ℕ))) (sizing : Sizing) (config : SpannedConfig) (d : Drawing) → IsDrawingWith columns texts sizing config d → AllHaveRoom d
+room-with columns texts sizing config d is =
+    subst AllHaveRoom (sym is.is) (room-in config columns texts sizing is.widths is.heights (λ _. None) is.sized)
+
+-- an error of a layout is no failed write
+pub no-write : (e : LayoutError) → draw_error_of e ≢ draw_errors.Write
+no-write (layout_errors.OutOfTable p) is = cc
+no-write layout_errors.TooLarge is = cc
+no-write (layout_errors.Memory e) is = cc
+
+-- no cell lacks room in sizes that are found for it
+pub has-room : (columns : ℕ) (texts : List (List (List ℕ))) (sizing : Sizing) (config : SpannedConfig) (e : DrawError) → IsFaultWith columns texts sizing config e →
+    (p : Position) → e ≢ draw_errors.NoRoom p
+has-room columns texts sizing config e (Unsized error same are) p is = none error (sym same ∙ is)
+  where
+    none : (error : LayoutError) → draw_error_of error ≢ draw_errors.NoRoom p
+    none (layout_errors.OutOfTable q) is = cc
+    none layout_errors.TooLarge is = cc
+    none (layout_errors.Memory e) is = cc
+has-room columns texts sizing config e (Undrawn d drawn fault) p is = room-with columns texts sizing config d drawn p (subst (IsDrawFault d) is fault).1.it
+
+-- so of what is written by a configuration
+pub picture-has-room : {W A : Type 0} (contents : W → Option (List ℕ)) (has_failed has_stalled : W → Bool) (IsDrawn : Drawing → Type 0) (text_of : Drawing → List ℕ)
+    (columns : ℕ) (texts : List (List (List ℕ))) (sizing : Sizing) (config : SpannedConfig) (old new : W) (result : Result A DrawError) →
+    WritesPicture contents has_failed has_stalled IsDrawn (IsFaultWith columns texts sizing config) text_of old new result → IfErr result (λ e. (p : Position) → e ≢ draw_errors.NoRoom p)
+picture-has-room contents has_failed has_stalled IsDrawn text_of columns texts sizing config old new (Ok x) so = tt
+picture-has-room contents has_failed has_stalled IsDrawn text_of columns texts sizing config old new (Err e) so =
+    λ p is. has-room columns texts sizing config e (so.fault (subst IsRefusal (sym is) tt)) p is
+
+-- what is known of a call that draws by a configuration, with the sizes that are chosen so
+module _ {W : Type 0} (contents : W → Option (List ℕ)) (has_failed has_stalled : W → Bool) (config : SpannedConfig) (columns : ℕ) (texts : List (List (List ℕ)))
+    (sizing : Sizing) (text_of : Drawing → List ℕ) where
+  -- there are no sizes
+  pub unsized : (w : W) (e : LayoutError) → UnlessMemoryError e (AreNoSizesBySizing config text_measure columns texts sizing e) →
+      IsUndrawn contents has_failed has_stalled (IsDrawingWith columns texts sizing config) (IsFaultWith columns texts sizing config) text_of w w (draw_error_of e)
+  unsized w e are = draws-none contents has_failed has_stalled (IsDrawingWith columns texts sizing config) (IsFaultWith columns texts sizing config) text_of w (draw_error_of e) (no-write e) (named e are)
+    where
+      named : (e : LayoutError) → UnlessMemoryError e (AreNoSizesBySizing config text_measure columns texts sizing e) → IsRefusal (draw_error_of e) → IsFaultWith columns texts sizing config (draw_error_of e)
+      named (layout_errors.OutOfTable p) are is = Unsized (layout_errors.OutOfTable p) refl are
+      named layout_errors.TooLarge are is = Unsized layout_errors.TooLarge refl are
+      named (layout_errors.Memory e) are is = absurd is
+
+  -- there are, and it was drawn with them, or not
+  pub drawn-so : {A : Type 0} (d : Drawing) → IsDrawingWith columns texts sizing config d → (old new : W) (result : Result A DrawError) →
+      OnOk result (IsTaken contents has_failed has_stalled old (text_of d) new) → IfErr result (IsDrawFault d) → IfErr result (IsCutOff contents has_failed has_stalled old (text_of d) new) →
+      WritesPicture contents has_failed has_stalled (IsDrawingWith columns texts sizing config) (IsFaultWith columns texts sizing config) text_of old new result
+  drawn-so d is = draws-so contents has_failed has_stalled (IsDrawingWith columns texts sizing config) (IsFaultWith columns texts sizing config) text_of d is (λ e fault. Undrawn d is fault)
+
+-- by a configuration that settings tell
+module _ (settings : List Setting) (config : SpannedConfig) (told : IsConfiguredBy settings config) (columns : ℕ) (texts : List (List (List ℕ))) (sizing : Sizing) where
+  pub drawn-by-settings : (d : Drawing) → IsDrawingWith columns texts sizing config d → IsDrawingBy columns texts sizing settings d
+  drawn-by-settings d is = (config, told, is)
+
+  pub fault-by-settings : (e : DrawError) → IsFaultWith columns texts sizing config e → IsPictureFault columns texts sizing settings e
+  fault-by-settings e is = (config, told, is)

@@ -1,8 +1,0 @@
-use Rattle.std.proofs.Common.{◌≡◌}
-use Rattle.papergrid_grid.proofs.held.held_row.Given as goal
-
-abbrev pub invariant-loop-cell : goal.invariant-loop-cell
-invariant-loop-cell g l =
-    (goal.iterator-loop-cell g).can_next l.cell-iterator ×
-    (goal.iterator-loop-cell g).is_finite l.cell-iterator ×
-    (l.held.items ≡ l.yielded)
