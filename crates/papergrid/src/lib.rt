@@ -1,5 +1,5 @@
-//! Widths of columns and heights of rows of a table by its settings, the settings themselves, and the script that
-//! tells such a table.
+//! Tables by their settings: the settings themselves, widths of columns and heights of rows, pictures, the printers
+//! over records, and scripts that tell a table.
 #![tactic(auto)]
 
 mod compact;

@@ -2,7 +2,7 @@
 //!
 //! `string` splits texts and measures them, in columns of a terminal. A `Cell` is a text with its lines
 //! and widths, and a `Text` a cell that was measured once. `Records` are rows of cells that are walked
-//! once; `PeekableRecords` are read by position.
+//! once; `PeekableRecords` are read by position. `transfer` is what bytes are read from and written to.
 #![tactic(auto)]
 
 pub mod cell;
