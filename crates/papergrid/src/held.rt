@@ -1,4 +1,5 @@
-//! Tables whose cells are held.
+//! Tables whose cells are held, as the printers over records draw them. What makes them stands apart (`holding`), so that
+//! an edit of a run can be tried without it.
 
 ghost use Rattle.std.specs.Prelude.{◌≡◌, length};
 

@@ -1,4 +1,4 @@
-//! Rows of cells, held.
+//! Makes a table that holds the cells of records, row by row.
 
 ghost use Rattle.std.specs.Prelude.{◌≡◌, ⊤, IfOk, map};
 ghost use Rattle.papergrid_text.specs.Records.{Gives, WalkIsShort};
