@@ -2,13 +2,11 @@
 //! own types, the law of layouts, drawn tables that no document tells, readers and writers that fail once, and writers that
 //! take a beginning of a picture alone. In `refused`, calls whose allocations fail.
 
-mod crossings;
 mod drawn;
 mod ends;
 mod layouts;
 mod messages;
 mod of_csv;
-mod of_documents;
 mod own_types;
 mod places;
 mod refused;

@@ -1,10 +1,13 @@
 -- What the characters of a field between tabs stand for, one character after another.
 use Rattle.std.proofs.Common.{◌≡◌, ◌≢◌, ◌∙◌, ℕ, List, [], ◌∷◌, ◌++◌, Bool, true, false, cond, Result, Ok, Err, append-nil, append_assoc, ap, arith, refl, subst, sym}
-use Rattle.std.specs.Prelude.{◌==◌, OnOk, encode_utf8_all, flat_map}
+use Rattle.std.specs.Prelude.{◌==◌, OnOk, chars, encode_utf8_all, flat_map}
 use Rattle.std.specs.List.{list_any}
 use Rattle.std.proofs.lemmas.Bool.Decides.{nat_tests}
 use Rattle.std.proofs.lemmas.Grind.{flat_map-append}
-use Rattle.std.proofs.lemmas.Str.{encodes-append}
+use Rattle.std.specs.Str.{IsUtf8}
+use Rattle.std.proofs.Math.Utf8.{encode}
+use Rattle.std.proofs.lemmas.List.Folds.{list_any-append}
+use Rattle.std.proofs.lemmas.Str.{encode_ascii, encodes-append, encodes-chars}
 use Rattle.papergrid_csv.specs.Spelling.{is_escaped, meant, spelled_character, without_escapes}
 use Rattle.papergrid_csv.specs.ForProofs.Escapes.{after_backslash}
 use Rattle.papergrid_csv.specs.declared.reading.Format.{Format}
@@ -38,9 +41,29 @@ none-escaped (b ∷ bs) none =
     let other : b ≢ 0x5C = grind (arith, nat_tests) in
     plain-first b bs other ∙ ap (λ l. b ∷ l) (none-escaped bs rest)
 
+not-first : (b : Bool) (c : ℕ) → (c == 0x5C) ≡ b → list_any (λ d. d == 0x5C) (encode c) ≡ false → (c == 0x5C) ≡ false
+not-first false c is none = is
+not-first true c is none =
+    let same : c ≡ 0x5C = grind (arith, nat_tests) in
+    let one = encode_ascii c (omega arith) in
+    let found : list_any (λ d. d == 0x5C) (encode c) ≡ true = rw (one, is) refl in
+    is ∙ (sym found ∙ none)
+
+-- characters without a backslash among their bytes have none among themselves
+none-encoded : (cs : List ℕ) → list_any (λ d. d == 0x5C) (encode_utf8_all cs) ≡ false → list_any (λ d. d == 0x5C) cs ≡ false
+none-encoded [] none = refl
+none-encoded (c ∷ cs) none =
+    let parts = sym (list_any-append (λ d. d == 0x5C) (encode c) (encode_utf8_all cs)) ∙ none in
+    let first : list_any (λ d. d == 0x5C) (encode c) ≡ false = grind (arith, nat_tests) in
+    let rest : list_any (λ d. d == 0x5C) (encode_utf8_all cs) ≡ false = grind (arith, nat_tests) in
+    let other = not-first (c == 0x5C) c refl first in
+    rw other (none-encoded cs rest)
+
 -- a field that has no backslash stands for itself
-pub means-itself : (format : Format) (bs : List ℕ) (found : Bool) → format ≡ Tsv → found ≡ list_any (λ b. b == 0x5C) bs → found ≡ false → meant format bs ≡ bs
-means-itself format bs found tsv is none = rw tsv (none-escaped bs (sym is ∙ none))
+pub means-itself : (format : Format) (field : List ℕ) (found : Bool) → IsUtf8 field → format ≡ Tsv → found ≡ list_any (λ b. b == 0x5C) field → found ≡ false →
+    meant format (chars field) ≡ chars field
+means-itself format field found utf8 tsv is none =
+    rw tsv (none-escaped (chars field) (none-encoded (chars field) (ap (list_any (λ b. b == 0x5C)) (encodes-chars field utf8) ∙ (sym is ∙ none))))
 
 -- ---- so far
 

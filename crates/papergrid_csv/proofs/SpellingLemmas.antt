@@ -156,13 +156,44 @@ is-ascii [] all i = omega arith
 is-ascii (b ∷ bs) all zero = all.0
 is-ascii (b ∷ bs) all (suc i) = is-ascii bs all.1 i
 
--- printable ASCII that stands for itself stays
-pub spelled-printable : (reading : Reading) (bs : List ℕ) → list_all (is_in_range 0x20 0x7E) bs ≡ true → meant reading.format bs ≡ bs → bs ≡ spelled reading bs
-unfolding spelled
-spelled-printable reading bs all itself =
+-- ---- characters that are shown as they are
+
+pub stays-same : (c : ℕ) → is_ascii_control c ≡ false → is_other_control c ≡ false → spelled_other c ≡ c ∷ []
+unfolding spelled_other
+stays-same c not_ascii not_other = rw (not_ascii, not_other) refl
+
+pub feed-same : (reading : Reading) (c : ℕ) → c ≡ 10 → reading.one_line ≡ false → spelled_character reading c ≡ c ∷ []
+unfolding spelled_character
+feed-same reading c is many = rw (is, many) refl
+
+pub raw-same : (reading : Reading) (c : ℕ) → c ≢ 10 → c ≢ 9 → reading.raw ≡ true → spelled_character reading c ≡ c ∷ []
+unfolding spelled_character
+raw-same reading c not_feed not_tab is =
+    let feed : (c == 10) ≡ false = grind (arith, nat_tests) in
+    let tab : (c == 9) ≡ false = grind (arith, nat_tests) in
+    rw (feed, tab, is) refl
+
+pub other-same : (reading : Reading) (c : ℕ) → c ≢ 10 → c ≢ 9 → c ≢ 13 → spelled_other c ≡ c ∷ [] → spelled_character reading c ≡ c ∷ []
+unfolding spelled_character
+other-same reading c not_feed not_tab not_back is =
+    let feed : (c == 10) ≡ false = grind (arith, nat_tests) in
+    let tab : (c == 9) ≡ false = grind (arith, nat_tests) in
+    let back : (c == 13) ≡ false = grind (arith, nat_tests) in
+    rw (feed, tab, back, is) (same-either reading.raw (c ∷ []))
+
+pub same-more : (reading : Reading) (yielded : List ℕ) (c : ℕ) → flat_map (spelled_character reading) yielded ≡ yielded → spelled_character reading c ≡ c ∷ [] →
+    flat_map (spelled_character reading) (yielded ++ c ∷ []) ≡ yielded ++ c ∷ []
+same-more reading yielded c before is = sym (flat_map_more (spelled_character reading) [] yielded c) ∙ ap (λ t. t ++ spelled_character reading c) before ∙ ap (λ t. yielded ++ t) is
+
+pub same-all : (reading : Reading) (characters text : List ℕ) → flat_map (spelled_character reading) characters ≡ characters → encode_utf8_all characters ≡ text →
+    encode_utf8_all (flat_map (spelled_character reading) characters) ≡ text
+same-all reading characters text same is = ap encode_utf8_all same ∙ is
+
+pub printable-same : (reading : Reading) (bs : List ℕ) → list_all (is_in_range 0x20 0x7E) bs ≡ true → encode_utf8_all (flat_map (spelled_character reading) (chars bs)) ≡ bs
+printable-same reading bs all =
     let both = printable-all reading bs all in
     let characters = chars-IsAscii bs (is-ascii bs both.1) in
-    rw (characters, itself, both.0) (sym (encodes-ascii bs both.1))
+    rw (characters, both.0) (encodes-ascii bs both.1)
 
 -- one character more
 pub spelled-more : (reading : Reading) (old new : List ℕ) (yielded : List ℕ) (c : ℕ) → old ≡ encode_utf8_all (flat_map (spelled_character reading) yielded) →
@@ -175,6 +206,12 @@ spelled-more reading old new yielded c before is =
 pub kept-same : {E : Type 0} (r : Result (Bor (List ℕ)) E) (text wanted : List ℕ) → IfOk r (λ s. s.now ≡ text) → text ≡ wanted → IfOk r (λ s. s.now ≡ wanted)
 kept-same (Ok s) text wanted kept same = kept ∙ same
 kept-same (Err e) text wanted kept same = tt
+
+-- a field that stands for itself, whose characters are shown as they are
+pub same-spelled : (reading : Reading) (field : List ℕ) → encode_utf8_all (flat_map (spelled_character reading) (chars field)) ≡ field →
+    meant reading.format (chars field) ≡ chars field → field ≡ spelled reading field
+unfolding spelled
+same-spelled reading field same itself = sym same ∙ ap (λ cs. encode_utf8_all (flat_map (spelled_character reading) cs)) (sym itself)
 
 -- ---- by the format
 

@@ -1,6 +1,6 @@
 //! What the fields of a text stand for, and how their characters are spelled.
 
-ghost use Rattle.std.specs.Prelude.{◌≡◌, ◌++◌, IfOk, OnOk, chars, encode_utf8_all, false, flat_map, replicate, string_bytes};
+ghost use Rattle.std.specs.Prelude.{◌≡◌, ◌++◌, ◌∷◌, [], IfOk, OnOk, chars, encode_utf8_all, false, flat_map, replicate, string_bytes, true};
 ghost use Rattle.papergrid_csv.specs.Spelling.{is_ascii_control, is_other_control, meant, spelled, spelled_character, spelled_in_line, spelled_other, spelled_tab, without_escapes};
 ghost use Rattle.papergrid_csv.specs.ForProofs.Escapes.{after_backslash};
 
@@ -15,7 +15,7 @@ use std::alloc::AllocError;
 pub fn spell<'t>(texts: &'t Bump, reading: Reading, field: &str) -> Result<&'t str, AllocError>
     ensures { IfOk result (λ text. text.now ≡ spelled reading field.now) }
 {
-    if is_printable(field) && !may_escape(reading.format, field) {
+    if is_kept(reading, field) && !may_escape(reading.format, field) {
         return texts.try_alloc_str(field);
     }
     match reading.format {
@@ -24,9 +24,49 @@ pub fn spell<'t>(texts: &'t Bump, reading: Reading, field: &str) -> Result<&'t s
     }
 }
 
+/// Whether each character of the field is shown as it is.
+fn is_kept(reading: Reading, field: &str) -> bool
+    ensures { result ≡ true →
+        encode_utf8_all (flat_map (spelled_character reading) (chars field.now)) ≡ field.now }
+{
+    is_printable(field) || are_kept(reading, field)
+}
+
+/// The same, one character after another.
+fn are_kept(reading: Reading, field: &str) -> bool
+    ensures { result ≡ true →
+        encode_utf8_all (flat_map (spelled_character reading) (chars field.now)) ≡ field.now }
+{
+    for c in field.chars() {
+        if !keeps(reading, c) {
+            return false;
+        }
+    }
+    true
+}
+
+/// Whether a character is shown as it is. Of a tab and a carriage return this is not looked at.
+fn keeps(reading: Reading, c: char) -> bool
+    ensures { result ≡ true → spelled_character reading c ≡ c ∷ [] }
+{
+    match c {
+        '\n' => !reading.one_line,
+        '\t' => false,
+        '\r' => false,
+        _ => reading.raw || stays(c),
+    }
+}
+
+/// The same where no character stays as it is, of one that is neither a line feed, a tab nor a carriage return.
+fn stays(c: char) -> bool
+    ensures { result ≡ true → spelled_other c ≡ c ∷ [] }
+{
+    !is_ascii_control(c) && !is_other_control(c)
+}
+
 /// Whether a backslash of the field may begin an escape.
 fn may_escape(format: Format, field: &str) -> bool
-    ensures { result ≡ false → meant format field.now ≡ field.now }
+    ensures { result ≡ false → meant format (chars field.now) ≡ chars field.now }
 {
     match format {
         Format::Csv(_) => false,

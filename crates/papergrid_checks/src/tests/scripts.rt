@@ -1,8 +1,7 @@
 //! Scripts that have sizes, and why one has none. Why others have none is said by cases of `papergrid_sizes`.
 
-use crate::scripts::{answer_to, bad_line};
 use papergrid::config::Position;
-use papergrid::{Reason, RunEnd, Sizing, WriteSink, explain};
+use papergrid::{Reason, Sizing, explain};
 use std::alloc::Global;
 
 /// Each script of `examples`, and why it has no sizes.
@@ -32,25 +31,4 @@ fn are_explained(alloc: Global) -> bool {
 #[test]
 fn explained(rt: HostRuntime) {
     assert!(rt; are_explained(rt.alloc()));
-}
-
-#[test]
-fn first_bad_line(rt: HostRuntime) {
-    let alloc = rt.alloc();
-    assert!(rt;
-        bad_line(alloc, b"columns 1\n\nrwo\ncell a") == Ok(Some(3))
-            && bad_line(alloc, b"columns 1\nrow\ncell a\ncell b\n") == Ok(None)
-    );
-}
-
-#[test]
-fn out_of_the_table(rt: HostRuntime) {
-    let mut written = Vec::new(rt.alloc());
-    let end = answer_to(
-        rt.alloc(),
-        b"columns 1\nrow\ncell a\ncell b\n",
-        &mut WriteSink::new(&mut written),
-    );
-    assert!(rt; end == Ok(RunEnd::Refused));
-    assert!(rt; written.as_slice() == b"refused: out of table at 0,1\n".as_slice());
 }
