@@ -24,19 +24,15 @@ pub fn spell<'t>(texts: &'t Bump, reading: Reading, field: &str) -> Result<&'t s
     }
 }
 
-/// Whether each character of the field is shown as it is.
+/// Whether each character of the field is known to be shown as it is. Where that is not known each is spelled by
+/// itself, which takes longer.
 fn is_kept(reading: Reading, field: &str) -> bool
     ensures { result ≡ true →
         encode_utf8_all (flat_map (spelled_character reading) (chars field.now)) ≡ field.now }
 {
-    is_printable(field) || are_kept(reading, field)
-}
-
-/// The same, one character after another.
-fn are_kept(reading: Reading, field: &str) -> bool
-    ensures { result ≡ true →
-        encode_utf8_all (flat_map (spelled_character reading) (chars field.now)) ≡ field.now }
-{
+    if is_printable(field) {
+        return true;
+    }
     for c in field.chars() {
         if !keeps(reading, c) {
             return false;
@@ -45,19 +41,20 @@ fn are_kept(reading: Reading, field: &str) -> bool
     true
 }
 
-/// Whether a character is shown as it is. Of a tab and a carriage return this is not looked at.
+/// Whether a character is known to be shown as it is. Tabs and carriage returns are taken for others.
 fn keeps(reading: Reading, c: char) -> bool
     ensures { result ≡ true → spelled_character reading c ≡ c ∷ [] }
 {
     match c {
         '\n' => !reading.one_line,
+        // (apart, since the proof needs of the last arm that it has neither)
         '\t' => false,
         '\r' => false,
         _ => reading.raw || stays(c),
     }
 }
 
-/// The same where no character stays as it is, of one that is neither a line feed, a tab nor a carriage return.
+/// Whether a character that is no line feed, tab or carriage return is shown as it is, though controls are spelled.
 fn stays(c: char) -> bool
     ensures { result ≡ true → spelled_other c ≡ c ∷ [] }
 {
