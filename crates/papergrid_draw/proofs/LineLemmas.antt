@@ -140,4 +140,4 @@ module _ {parts : TableParts} {frame : Frame} (read : IsFrame parts frame) where
   -- whether a line is drawn before a column
   pub frame-line : (texts : Texts) (j : ℕ) (kept : Bool) → j ≤ frame.shape.1 → kept ≡ get_or frame.verticals.items j kept →
       draws_vertical (drawing_of parts texts) j ≡ kept
-  frame-line texts j kept within is = sym (is ∙ read.verticals texts j kept (let wide = frame-columns in omega (arith, within, wide)))
+  frame-line texts j kept within is = sym (is ∙ read.verticals.each texts j kept (let wide = frame-columns in omega (arith, within, wide)))

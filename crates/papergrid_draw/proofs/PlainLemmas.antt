@@ -19,6 +19,7 @@ use Rattle.papergrid_tables.specs.Overrides.{found_override, override_at}
 use Rattle.papergrid_tables.specs.StoredBorders.{parts_of_borders}
 use Rattle.papergrid_maps.proofs.SpanVisible.{visible_test, visible_without_spans}
 use Rattle.papergrid_config.specs.Grids.{spanned_grid}
+use Rattle.papergrid_config.specs.Queries.{HasCommonLines}
 use Rattle.papergrid_config.specs.declared.spanned.SpannedConfig.{SpannedConfig}
 use Rattle.papergrid_layout.specs.Places.{IsInsideTable, begin_along, extent, length_along, sum_from, track_line, track_size}
 use Rattle.papergrid_layout.specs.Tables.{TableParts}
@@ -31,7 +32,7 @@ use Rattle.papergrid_draw.specs.Drawn.{after_these, column_pieces, content_from,
 use Rattle.papergrid_draw.specs.Pieces.{Line, fill_text}
 use Rattle.papergrid_draw.specs.Tiles.{IsTiled}
 use Rattle.papergrid_draw.specs.ForProofs.Pages.{AreSlots, IsFrame, IsSlot, Texts, drawing_of, text_start}
-use Rattle.papergrid_draw.specs.ForProofs.Plain.{IsPlain, character_bytes}
+use Rattle.papergrid_draw.specs.ForProofs.Plain.{IsPlain}
 use Rattle.papergrid_draw.specs.ForProofs.Sheets.{AtText}
 use Rattle.papergrid_draw.specs.declared.page.Frame.{Frame}
 use Rattle.papergrid_draw.specs.declared.page.Slot.{Slot}
@@ -190,36 +191,32 @@ one-bytes text color none =
     ∙ ap (λ k. piece_bytes (record { kind = Line; text = text; columns = 1; color = k })) none
     ∙ append-nil text
 
-module _ (d : Drawing) (plain : IsPlain d.config) where
+module _ (d : Drawing) (common : HasCommonLines d.config) where
   -- a vertical line has one character in all rows
-  plain-character : (p q : Position) (height k : ℕ) → p.col ≡ q.col →
+  common-character : (p q : Position) (height k : ℕ) → p.col ≡ q.col →
       vertical_character d.config d.shape p height k ≡ unwrap_or (found_vertical (parts_of_borders d.config.characters) q d.shape.1) d.config.missing
-  plain-character p q height k same =
+  common-character p q height k same =
       ap (λ own. unwrap_or (option_or own (found_vertical (parts_of_borders d.config.characters) p d.shape.1)) d.config.missing)
-      (unfound (override_at d.config.vertical_chars p) k height (plain.lines.vertical_chars p))
+      (unfound (override_at d.config.vertical_chars p) k height (common.vertical_chars p))
       ∙ ap (λ found. unwrap_or found d.config.missing)
-      (same-vertical (parts_of_borders d.config.characters) p q d.shape.1 plain.lines.characters same)
+      (same-vertical (parts_of_borders d.config.characters) p q d.shape.1 common.characters same)
 
   -- and no colour
-  plain-color : (p : Position) (height k : ℕ) → vertical_color d.config d.shape p height k ≡ None
-  plain-color p height k =
+  common-color : (p : Position) (height k : ℕ) → vertical_color d.config d.shape p height k ≡ None
+  common-color p height k =
       ap (λ found. option_or found (found_override (override_at d.config.vertical_colors p) k height))
-      (no-vertical (parts_of_borders d.config.colors) p d.shape.1 plain.lines.colors)
-      ∙ unfound (override_at d.config.vertical_colors p) k height (plain.lines.vertical_colors p)
+      (no-vertical (parts_of_borders d.config.colors) p d.shape.1 common.colors)
+      ∙ unfound (override_at d.config.vertical_colors p) k height (common.vertical_colors p)
 
-  pub plain-vertical : (r c k character : ℕ) (q : Position) → draws_vertical d c ≡ true → c ≡ q.col →
+  pub common-vertical : (r c k character : ℕ) (q : Position) → draws_vertical d c ≡ true → c ≡ q.col →
       character ≡ unwrap_or (found_vertical (parts_of_borders d.config.characters) q d.shape.1) d.config.missing →
-      pieces_bytes (vertical_pieces d r c k) ≡ character_bytes (Some character)
-  plain-vertical r c k character q some same is =
+      pieces_bytes (vertical_pieces d r c k) ≡ fill_text character 1
+  common-vertical r c k character q some same is =
       let p = position_of (r, c) in
       ap (λ b. pieces_bytes (if b then vertical d.config d.shape p (d.heights r) k ∷ [] else [])) some
       ∙ one-bytes (fill_text (vertical_character d.config d.shape p (d.heights r) k) 1) (vertical_color d.config d.shape p (d.heights r) k)
-      (plain-color p (d.heights r) k)
-      ∙ ap (λ n. fill_text n 1) (plain-character p q (d.heights r) k same ∙ sym is)
-
-  pub plain-no-vertical : (r c k : ℕ) → draws_vertical d c ≡ false → pieces_bytes (vertical_pieces d r c k) ≡ character_bytes None
-  plain-no-vertical r c k none =
-      ap (λ b. pieces_bytes (if b then vertical d.config d.shape (position_of (r, c)) (d.heights r) k ∷ [] else [])) none
+      (common-color p (d.heights r) k)
+      ∙ ap (λ n. fill_text n 1) (common-character p q (d.heights r) k same ∙ sym is)
 
 -- ---- rows
 

@@ -161,7 +161,7 @@ module _ (parts : TableParts) (frame : Frame) (read : IsFrame parts frame) where
   last-in = let wide = frame-columns read in omega (arith, wide)
 
   pub last-kept : frame.shape.1 < frame.verticals.len
-  last-kept = let wide = frame-columns read in omega (arith, wide, read.many, frame.verticals.ok.0)
+  last-kept = let wide = frame-columns read in omega (arith, wide, read.verticals.many, frame.verticals.ok.0)
 
   pub last-line : (texts : Texts) (kept : Bool) → kept ≡ get_or frame.verticals.items frame.shape.1 kept →
       draws_vertical (drawing_of parts texts) frame.shape.1 ≡ kept

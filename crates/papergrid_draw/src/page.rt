@@ -1,8 +1,11 @@
 //! A table while it is drawn: what stands in each column of a row.
 
-ghost use Rattle.std.specs.Prelude.{◌≡◌, ◌↔◌, ◌<◌, ◌≤◌, ◌+◌, ◌-◌, ◌++◌, IsTrue, Some, IfOk, OnOk, ◌&&◌, length, nat_lt, option_copied, option_map, slice_index, string_bytes, true};
+ghost use Rattle.std.specs.Prelude.{◌≡◌, ◌↔◌, ◌<◌, ◌≤◌, ◌+◌, ◌-◌, ◌++◌, IsTrue, Some, IfOk, OnOk, ◌&&◌, length, nat_lt, option_copied, option_map, slice_index, string_bytes, true, unwrap_or};
 ghost use Rattle.papergrid_values.specs.Colors.{texts_of};
 ghost use Rattle.papergrid_values.specs.declared.direction.Direction.TheVariants.{Columns, Rows};
+ghost use Rattle.papergrid_values.specs.Positions.{position_of};
+ghost use Rattle.papergrid_tables.specs.BorderParts.{found_vertical};
+ghost use Rattle.papergrid_tables.specs.StoredBorders.{parts_of_borders};
 ghost use Rattle.papergrid_config.specs.Grids.{spanned_grid};
 ghost use Rattle.papergrid_layout.specs.Places.{IsInsideTable};
 ghost use Rattle.papergrid_layout.specs.Tables.{TableParts};
@@ -11,7 +14,7 @@ ghost use Rattle.papergrid_draw.specs.Contents.{block_at, lines_of};
 ghost use Rattle.papergrid_draw.specs.Drawings.{layout_of};
 ghost use Rattle.papergrid_draw.specs.Drawn.{column_pieces, column_stretch, crossing_stretch, draws_horizontal, owner_at, rule_line, text_line, vertical_pieces};
 ghost use Rattle.papergrid_draw.specs.Tiles.{IsTiled};
-ghost use Rattle.papergrid_draw.specs.ForProofs.Pages.{AreSlotsSet, AreSlots, AreVerticals, IsFrame, IsSlot, Texts, drawing_of, row_start, text_start};
+ghost use Rattle.papergrid_draw.specs.ForProofs.Pages.{AreSlotsSet, AreSlots, AreVerticals, HaveCharacters, IsFrame, IsSlot, Texts, drawing_of, row_start, text_start};
 ghost use Rattle.papergrid_draw.specs.ForProofs.Pens.{AddsStretches, stretches_over};
 
 use crate::block::Block;
@@ -41,6 +44,7 @@ pub struct Frame<'a> {
     pub height: usize,
     pub looks: Looks<'a>,
     pub verticals: Vec<bool>,
+    characters: Vec<char>,
 }
 
 // By hand: docs/DECISIONS.md, "Drops".
@@ -53,12 +57,13 @@ impl Drop for Frame<'_> {
             height: _,
             looks: _,
             verticals: _,
+            characters: _,
         } = self;
     }
 }
 
 /// Whether a vertical line stands before each column of a table, and after the last.
-pub fn vertical_lines(alloc: Global, table: &Table<'_>) -> Result<Vec<bool>, AllocError>
+fn vertical_lines(alloc: Global, table: &Table<'_>) -> Result<Vec<bool>, AllocError>
     ensures { IfOk result (λ lines. AreVerticals table.now lines.items) }
 {
     let mut lines = Vec::new(alloc);
@@ -68,21 +73,50 @@ pub fn vertical_lines(alloc: Global, table: &Table<'_>) -> Result<Vec<bool>, All
     Ok(lines)
 }
 
+/// The character that a vertical line before a column has in the first row, of so many columns.
+fn vertical_character(config: &SpannedConfig, col: usize, columns: usize) -> char
+    ensures { result ≡ unwrap_or
+        (found_vertical (parts_of_borders config.now.characters) (position_of (0, col)) columns)
+        config.now.missing }
+{
+    let character = config.get_vertical(Position { row: 0, col }, columns);
+    character.unwrap_or(config.get_borders_missing())
+}
+
+/// The character of the vertical line before each column, and after the last; none where lines have a part, a colour or a
+/// character of a single cell.
+fn vertical_characters(alloc: Global, table: &Table<'_>) -> Result<Vec<char>, AllocError>
+    ensures { IfOk result (λ characters. HaveCharacters table.now characters.items) }
+{
+    let (config, columns) = (table.config(), table.shape().1);
+    let mut characters = Vec::new(alloc);
+    if !config.has_common_lines() {
+        return Ok(characters);
+    }
+    for col in 0..columns {
+        characters.push(vertical_character(config, col, columns))?;
+    }
+    characters.push(vertical_character(config, columns, columns))?;
+    Ok(characters)
+}
+
 impl<'a> Frame<'a> {
-    /// That of a table with these vertical lines.
-    pub fn new(table: &'a Table<'a>, verticals: Vec<bool>) -> Frame<'a>
-        requires { AreVerticals table.now verticals.items }
-        ensures { IsFrame table.now result }
+    /// That of a table, or out of memory.
+    pub fn new(alloc: Global, table: &'a Table<'a>) -> Result<Frame<'a>, AllocError>
+        ensures { IfOk result (IsFrame table.now) }
     {
+        let verticals = vertical_lines(alloc, table)?;
+        let characters = vertical_characters(alloc, table)?;
         let config = table.config();
-        Frame {
+        Ok(Frame {
             table,
             config,
             shape: table.shape(),
             height: table.height(),
             looks: Looks::new(config),
             verticals,
-        }
+            characters,
+        })
     }
 
     /// The owner of a position, by the cells that cover the columns of the row above, and of its own row before it.
@@ -216,7 +250,7 @@ impl<'a> Frame<'a> {
     }
 
     /// Adds the character of the vertical line before a column, if there is one.
-    fn push_line_before(
+    pub fn push_line_before(
         &self,
         position: Position,
         height: usize,
@@ -233,7 +267,10 @@ impl<'a> Frame<'a> {
         if !self.verticals[position.col] {
             return Ok(());
         }
-        push_vertical(line, self.config, position, self.shape, height, k)
+        match self.characters.get(position.col) {
+            Some(character) => line.push(*character),
+            None => push_vertical(line, self.config, position, self.shape, height, k),
+        }
     }
 
     /// Adds line k of a row.

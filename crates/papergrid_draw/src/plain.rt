@@ -1,15 +1,14 @@
-//! Tables whose cells span nothing, and whose lines have no part, colour or character of a single cell: what stands on
-//! their lines is found once.
+//! Tables whose cells span nothing, and whose lines have no part, colour or character of a single cell: each position has a
+//! cell of its own, and the lines between rows are made once.
 
-ghost use Rattle.std.specs.Prelude.{◌≡◌, ◌↔◌, ◌+◌, ◌++◌, ◌<◌, ◌≤◌, ℕ, IfOk, IsTrue, OnOk, length, option_copied, slice_index, string_bytes};
-ghost use Rattle.papergrid_layout.specs.Tables.{TableParts};
+ghost use Rattle.std.specs.Prelude.{◌≡◌, ◌↔◌, ◌+◌, ◌++◌, ◌<◌, ◌≤◌, IfOk, IsTrue, OnOk, length, option_copied, slice_index, string_bytes};
 ghost use Rattle.papergrid_draw.specs.Bytes.{pieces_bytes, rule_bytes};
 ghost use Rattle.papergrid_draw.specs.Contents.{block_at, content};
 ghost use Rattle.papergrid_draw.specs.Drawings.{drawn_of};
-ghost use Rattle.papergrid_draw.specs.Drawn.{crossing_stretch, rule_line, text_line, vertical_pieces};
+ghost use Rattle.papergrid_draw.specs.Drawn.{crossing_stretch, rule_line, text_line};
 ghost use Rattle.papergrid_draw.specs.ForProofs.Pages.{AreSlots, IsFrame, Texts, drawing_of, text_start};
 ghost use Rattle.papergrid_draw.specs.ForProofs.Pens.{AddsStretches};
-ghost use Rattle.papergrid_draw.specs.ForProofs.Plain.{ArePlainLines, IsCommonRule, IsPlain, character_bytes};
+ghost use Rattle.papergrid_draw.specs.ForProofs.Plain.{HasCommonRule, IsCommonRule, IsPlain};
 
 use crate::block::push_only_line;
 use crate::characters::Rule;
@@ -30,62 +29,9 @@ pub fn is_plain(config: &SpannedConfig) -> bool
     !columns && (!rows && lines)
 }
 
-/// What stands on the lines of such a table: the character of the vertical line before each column, and after the last,
-/// where there is one; and the bytes of the horizontal lines between rows that have no line of their own, once one was drawn.
-pub struct PlainLines {
-    verticals: Vec<Option<char>>,
-    rule: Option<String>,
-}
-
-// By hand: docs/DECISIONS.md, "Drops".
-impl Drop for PlainLines {
-    fn drop(self) {
-        let PlainLines {
-            verticals: _,
-            rule: _,
-        } = self;
-    }
-}
-
-impl PlainLines {
-    /// That of a table.
-    pub fn new(alloc: Global, frame: &Frame<'_>) -> Result<PlainLines, AllocError>
-        requires frame { IsFrame frame.now.table.now frame.now }
-        requires plain { IsPlain frame.now.table.now.config }
-        ensures { IfOk result (ArePlainLines frame.now.table.now) }
-    {
-        let columns = frame.shape.1;
-        let mut verticals = Vec::new(alloc);
-        for col in 0..columns {
-            verticals.push(vertical_character(frame, col))?;
-        }
-        verticals.push(vertical_character(frame, columns))?;
-        Ok(PlainLines {
-            verticals,
-            rule: None,
-        })
-    }
-
-    /// Adds the character of the vertical line before a column, or after the last, if there is one.
-    fn push_vertical(&self, col: usize, line: &mut String) -> Result<(), AllocError>
-        requires { (parts : TableParts) × ArePlainLines parts self.now
-            × (col ≤ length parts.widths) }
-        ensures { OnOk result ((parts : TableParts) (texts : Texts) (r k : ℕ) →
-            ArePlainLines parts self.now → col ≤ length parts.widths →
-            string_bytes line.new ≡ string_bytes line.old
-            ++ pieces_bytes (vertical_pieces (drawing_of parts texts) r col k)) }
-    {
-        match self.verticals[col] {
-            Some(character) => line.push(character),
-            None => Ok(()),
-        }
-    }
-}
-
 /// Adds the text line of a row that is one line high.
 pub fn push_plain_text_line<'a, S: Cells>(
     frame: &Frame<'a>,
-    lines: &PlainLines,
     cells: &'a S,
     row: usize,
     line: &mut String,
@@ -94,7 +40,6 @@ where
     S::Cell: Drop,
     requires frame { IsFrame frame.now.table.now frame.now }
     requires plain { IsPlain frame.now.table.now.config }
-    requires own { ArePlainLines frame.now.table.now lines.now }
     requires row_in { row < length frame.now.table.now.heights }
     requires low { slice_index frame.now.table.now.heights row ≡ 1 }
     ensures { let d = drawn_of S.lines S.color frame.now.table.now cells.now in
@@ -102,57 +47,43 @@ where
         ≡ string_bytes line.old ++ pieces_bytes (text_line d row 0)) }
 {
     for col in 0..frame.shape.1 {
-        lines.push_vertical(col, line)?;
-        push_cell(frame, cells, Position { row, col }, line)?;
+        let position = Position { row, col };
+        frame.push_line_before(position, 1, 0, line)?;
+        push_cell(frame, cells, position, line)?;
     }
-    lines.push_vertical(frame.shape.1, line)
+    let col = frame.shape.1;
+    frame.push_line_before(Position { row, col }, 1, 0, line)
 }
 
-/// Adds the horizontal line before a row, or after the last.
+/// Adds the horizontal line before a row, or after the last; and takes the bytes of those between rows that have no line of
+/// their own, once one was drawn.
 pub fn push_plain_rule_line(
     alloc: Global,
     frame: &Frame<'_>,
-    lines: &mut PlainLines,
+    common: &mut Option<String>,
     row: usize,
     line: &mut String,
 ) -> Result<(), AllocError>
     requires frame { IsFrame frame.now.table.now frame.now }
     requires plain { IsPlain frame.now.table.now.config }
-    requires own { ArePlainLines frame.now.table.now lines.old }
+    requires common { HasCommonRule frame.now.table.now common.old }
     requires row_in { row ≤ length frame.now.table.now.heights }
     ensures bytes { OnOk result ((texts : Texts) →
         string_bytes line.new ≡ string_bytes line.old
         ++ rule_bytes (rule_line (drawing_of frame.now.table.now texts) row)) }
-    ensures own { OnOk result (ArePlainLines frame.now.table.now lines.new) }
+    ensures common { OnOk result (HasCommonRule frame.now.table.now common.new) }
 {
     if !is_common_rule(frame, row) {
         return push_own_rule(frame, row, line);
     }
-    if let Some(rule) = &lines.rule {
+    if let Some(rule) = &*common {
         return line.push_str(rule.as_str());
     }
     let mut rule = String::new(alloc);
     push_own_rule(frame, row, &mut rule)?;
     line.push_str(rule.as_str())?;
-    lines.rule = Some(rule);
+    *common = Some(rule);
     Ok(())
-}
-
-/// The character of the vertical line before a column, or after the last, if there is one.
-fn vertical_character(frame: &Frame<'_>, col: usize) -> Option<char>
-    requires frame { IsFrame frame.now.table.now frame.now }
-    requires plain { IsPlain frame.now.table.now.config }
-    requires col_in { col ≤ length frame.now.table.now.widths }
-    ensures { (texts : Texts) (r k : ℕ) → pieces_bytes
-        (vertical_pieces (drawing_of frame.now.table.now texts) r col k)
-        ≡ character_bytes result }
-{
-    if !frame.verticals[col] {
-        return None;
-    }
-    let position = Position { row: 0, col };
-    let character = frame.config.get_vertical(position, frame.shape.1);
-    Some(character.unwrap_or(frame.config.get_borders_missing()))
 }
 
 /// Whether a row has a line before it that stands between two rows, and has none of its own set.

@@ -19,7 +19,7 @@ ghost use Rattle.papergrid_draw.specs.declared.error.DrawError.TheVariants.{Memo
 
 use crate::delivery::{Delivery, ToSink, ToText};
 use crate::error::DrawError;
-use crate::page::{Frame, vertical_lines};
+use crate::page::Frame;
 use crate::plain::is_plain;
 use crate::plain_rows::draw_plain_rows;
 use crate::room::{Room, find_room};
@@ -150,8 +150,7 @@ where
         (join_with_byte 10 (printed_lines d)) result }
 {
     check_tiles(alloc, table.config(), table.shape())?;
-    let verticals = vertical_lines(alloc, table)?;
-    let frame = Frame::new(table, verticals);
+    let frame = Frame::new(alloc, table)?;
     draw_tiled::<S, D, W>(alloc, &frame, cells, room, writer)
 }
 

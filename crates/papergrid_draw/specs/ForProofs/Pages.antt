@@ -1,12 +1,14 @@
 -- A table while it is drawn: what stands in each column of a row.
-use Rattle.std.specs.Prelude.{◌≡◌, ◌+◌, ◌-◌, ◌==◌, ◌^◌, ◌<◌, ◌≤◌, ℕ, Bool, List, Option, Some, None, if◌then◌else◌, length, slice_index, slice_index_or}
+use Rattle.std.specs.Prelude.{◌≡◌, ◌+◌, ◌-◌, ◌==◌, ◌^◌, ◌<◌, ◌≤◌, ℕ, Bool, List, Option, Some, None, if◌then◌else◌, length, slice_get, slice_index, slice_index_or, true}
 use Rattle.papergrid_values.specs.declared.direction.Direction.TheVariants.{Rows}
 use Rattle.papergrid_values.specs.declared.position.Position.{Position}
 use Rattle.papergrid_layout.specs.Places.{begin_along, line_offset, offset, total_along, track_line, track_size}
 use Rattle.papergrid_layout.specs.Tables.{TableParts, view_of}
+use Rattle.papergrid_draw.specs.Bytes.{pieces_bytes}
 use Rattle.papergrid_draw.specs.Contents.{block_at}
 use Rattle.papergrid_draw.specs.Drawings.{Drawing, layout_of}
-use Rattle.papergrid_draw.specs.Drawn.{draws_vertical, owner_at}
+use Rattle.papergrid_draw.specs.Drawn.{draws_vertical, owner_at, vertical_pieces}
+use Rattle.papergrid_draw.specs.Pieces.{fill_text}
 use Rattle.papergrid_draw.specs.ForProofs.Looks.{IsLookedUp}
 use Rattle.papergrid_draw.specs.declared.page.Frame.{Frame}
 use Rattle.papergrid_draw.specs.declared.page.Slot.{Slot}
@@ -33,6 +35,12 @@ pub record AreVerticals (parts : TableParts) (lines : List Bool) : Type 0 where
   pub each : (texts : Texts) (j : ℕ) (other : Bool) → j ≤ length parts.widths →
       slice_index_or lines j other ≡ draws_vertical (drawing_of parts texts) j
 
+-- the character of each vertical line in all rows, as far as they go: a line has no other there, and no colour
+abbrev pub HaveCharacters : TableParts → List ℕ → Type 0
+HaveCharacters parts characters = (texts : Texts) (r j k character : ℕ) → slice_get characters j ≡ Some character →
+    draws_vertical (drawing_of parts texts) j ≡ true →
+    pieces_bytes (vertical_pieces (drawing_of parts texts) r j k) ≡ fill_text character 1
+
 -- what is read of a table once
 pub record IsFrame (parts : TableParts) (frame : Frame) : Type 0 where
   pub table : frame.table.now ≡ parts
@@ -41,9 +49,8 @@ pub record IsFrame (parts : TableParts) (frame : Frame) : Type 0 where
   pub high : frame.height ≡ total_along (view_of parts) Rows
   pub fit : total_along (view_of parts) Rows < 2 ^ 64
   pub looks : IsLookedUp parts.config frame.looks
-  pub many : length frame.verticals.items ≡ length parts.widths + 1
-  pub verticals : (texts : Texts) (j : ℕ) (other : Bool) → j ≤ length parts.widths →
-      slice_index_or frame.verticals.items j other ≡ draws_vertical (drawing_of parts texts) j
+  pub verticals : AreVerticals parts frame.verticals.items
+  pub characters : HaveCharacters parts frame.characters.items
 
 module _ (d : Drawing) where
   -- the line of the table on which row r begins, with the horizontal line before it

@@ -1,4 +1,4 @@
-use Rattle.std.proofs.Common.{◌≡◌, ◌≤◌, ◌++◌, ◌∙◌, ap, arith, length, string_bytes}
+use Rattle.std.proofs.Common.{◌≡◌, ◌≤◌, ◌++◌, ◌∙◌, ap, arith, length, string_bytes, sym}
 use Rattle.std.proofs.lemmas.Result.{on_ok_weaker}
 use Rattle.papergrid_values.specs.Positions.{position_of}
 use Rattle.papergrid_draw.specs.Bytes.{pieces_bytes}
@@ -11,8 +11,8 @@ use Rattle.papergrid_draw.proofs.PlainLemmas.{plain-column}
 use Rattle.papergrid_draw.proofs.RuleLemmas.{columns-all}
 use Rattle.papergrid_draw.proofs.plain.push_plain_text_line.Goals as goal
 
-pub push_vertical-requires : goal.push_vertical-requires
-push_vertical-requires g c = (c.args.frame.now.table.now, c.requires.own, (let wide = frame-columns c.requires.frame in omega (arith, wide)))
+pub push_line_before-requires : goal.push_line_before-requires
+push_line_before-requires g c = (c.args.frame.now.table.now, c.requires.frame, (let wide = frame-columns c.requires.frame in omega (arith, wide)))
 
 pub loop-col-preserved : goal.loop-col-preserved
 loop-col-preserved g c =
@@ -25,22 +25,22 @@ loop-col-preserved g c =
     let within : col ≤ length parts.widths = omega (arith, wide) in
     let line = string_bytes c.loop-col.line in
     column-more (column_pieces d row 0) col (string_bytes c.args.line.now) line (string_bytes c.push_cell.new.line) c.loop-col.invariant
-    (added-pieces line (string_bytes c.push_vertical.new.line) (string_bytes c.push_cell.new.line)
+    (added-pieces line (string_bytes c.push_line_before.new.line) (string_bytes c.push_cell.new.line)
     (vertical_pieces d row col 0) (content (block_at d (position_of (row, col))) 0)
-    (c.in_ok-push_vertical.ensures parts texts row 0 c.requires.own within) c.in_ok-push_cell.ensures
+    (c.in_ok-push_line_before.ensures parts texts c.requires.frame (sym c.requires.low)) c.in_ok-push_cell.ensures
     ∙ ap (λ pieces. line ++ pieces_bytes pieces) (plain-column d c.requires.plain row 0 col))
 
-pub push_vertical-requires-2 : goal.push_vertical-requires-2
-push_vertical-requires-2 g c = (c.args.frame.now.table.now, c.requires.own, (let wide = frame-columns c.requires.frame in omega (arith, wide)))
+pub push_line_before-requires-2 : goal.push_line_before-requires-2
+push_line_before-requires-2 g c = (c.args.frame.now.table.now, c.requires.frame, (let wide = frame-columns c.requires.frame in omega (arith, wide)))
 
 pub returns : goal.returns
-returns g c = on_ok_weaker c.push_vertical-2.result (λ added.
+returns g c = on_ok_weaker c.push_line_before-2.result (λ added.
     let parts = c.args.frame.now.table.now in
     let texts = told_texts g.S.Cells.lines g.S.Cells.color c.args.cells.now in
     let wide : c.args.frame.now.shape.1 ≡ length parts.widths = frame-columns c.requires.frame in
     let within : c.args.frame.now.shape.1 ≤ length parts.widths = omega (arith, wide) in
     let all = columns-all parts c.args.frame.now c.requires.frame c.loop-col.col c.loop-col-test.false c.loop-col.auto.col-end in
     line-done (drawn_of g.S.Cells.lines g.S.Cells.color parts c.args.cells.now) c.args.row 0 c.loop-col.col c.args.frame.now.shape.1
-    (string_bytes c.args.line.now) (string_bytes c.loop-col.line) (string_bytes c.push_vertical-2.new.line) all wide c.loop-col.invariant
-    (added parts texts c.args.row 0 c.requires.own within))
-    c.push_vertical-2.ensures
+    (string_bytes c.args.line.now) (string_bytes c.loop-col.line) (string_bytes c.push_line_before-2.new.line) all wide c.loop-col.invariant
+    (added parts texts c.requires.frame (sym c.requires.low)))
+    c.push_line_before-2.ensures

@@ -1,21 +1,17 @@
 use Rattle.std.proofs.Common.{◌≡◌, ◌<◌, Ok, length, ap, refl, subst, sym, arith}
+use Rattle.std.proofs.lemmas.Option.{none-some}
 use Rattle.std.proofs.lemmas.Result.{err_from_is_err_and}
 use Rattle.papergrid_draw.specs.Drawings.{drawn_of}
 use Rattle.papergrid_draw.specs.Drawn.{rule_lines}
 use Rattle.papergrid_draw.specs.ForProofs.Pages.{row_start}
 use Rattle.papergrid_draw.specs.ForProofs.Sheets.{WritesLines, margined, told_texts}
-use Rattle.papergrid_draw.proofs.SheetLemmas.{lines-none, lines-refused}
+use Rattle.papergrid_draw.proofs.SheetLemmas.{lines-none}
 use Rattle.papergrid_draw.proofs.PrinterLemmas.{drawn-all, drawn-cut, first_rows-next}
 use Rattle.papergrid_draw.proofs.plain_rows.draw_plain_rows.Goals as goal
 
-pub returns-in_err-lines : goal.returns-in_err-lines
-returns-in_err-lines g c =
-    let p = err_from_is_err_and c.from_residual.result c.from_residual.ensures.1 in
-    rw (p.1, p.2) (lines-refused g.D.Delivery.takes g.D.Delivery.breaks _ _ _ _ _)
-
 pub loop-row-init : goal.loop-row-init
 loop-row-init g c = record {
-  own = c.in_ok-lines.ensures;
+  common = λ texts bytes row some. absurd (none-some bytes some);
   written = c.requires.start;
   wrote = lines-none g.D.Delivery.takes g.D.Delivery.breaks _ _ tt;
 }
@@ -23,7 +19,7 @@ loop-row-init g c = record {
 pub returns-in_err-draw_plain_row : goal.returns-in_err-draw_plain_row
 returns-in_err-draw_plain_row g c =
     let d = drawn_of g.S.Cells.lines g.S.Cells.color c.args.frame.now.table.now c.args.cells.now in
-    let p = err_from_is_err_and c.from_residual-in_err-draw_plain_row.result c.from_residual-in_err-draw_plain_row.ensures.1 in
+    let p = err_from_is_err_and c.from_residual.result c.from_residual.ensures.1 in
     let below : c.loop-row.row < d.shape.0 = omega (arith, ap (λ s. s.0) c.requires.frame.shape) in
     rw (p.1, p.2)
     (drawn-cut d g.D.Delivery.takes g.D.Delivery.breaks _ _ _ _ _ _ _ (row_start d c.loop-row.row) c.loop-row.row tt _ below refl c.loop-row.invariant.wrote c.in_err-draw_plain_row.ensures.lines)
@@ -32,7 +28,7 @@ pub loop-row-preserved : goal.loop-row-preserved
 loop-row-preserved g c =
     let d = drawn_of g.S.Cells.lines g.S.Cells.color c.args.frame.now.table.now c.args.cells.now in
     record {
-      own = c.in_ok-draw_plain_row.ensures.own;
+      common = c.in_ok-draw_plain_row.ensures.common;
       written = c.in_ok-draw_plain_row.ensures.written;
       wrote = first_rows-next d g.D.Delivery.takes g.D.Delivery.breaks _ _ _ _ _ _ (row_start d c.loop-row.row) c.loop-row.row tt (Ok tt) refl c.loop-row.invariant.wrote c.in_ok-draw_plain_row.ensures.lines;
     }

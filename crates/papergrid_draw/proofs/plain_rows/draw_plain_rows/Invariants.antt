@@ -1,14 +1,14 @@
 use Rattle.std.proofs.Common.{◌≡◌, Ok}
 use Rattle.papergrid_draw.specs.Drawings.{drawn_of}
 use Rattle.papergrid_draw.specs.ForProofs.Pages.{row_start}
-use Rattle.papergrid_draw.specs.ForProofs.Plain.{ArePlainLines}
+use Rattle.papergrid_draw.specs.ForProofs.Plain.{HasCommonRule}
 use Rattle.papergrid_draw.specs.ForProofs.Sheets.{WritesLines, margined}
 use Rattle.papergrid_draw.proofs.PrinterLemmas.{first_rows}
 use Rattle.papergrid_draw.proofs.plain_rows.draw_plain_rows.Given as goal
 
 abbrev pub invariant-loop-row : goal.invariant-loop-row
 invariant-loop-row g l = record {
-  own : ArePlainLines l.frame.table.now l.lines;
+  common : HasCommonRule l.frame.table.now l.common;
   written : l.sheet.written ≡ row_start (drawn_of g.S.Cells.lines g.S.Cells.color l.frame.table.now l.cells) l.row;
   wrote : WritesLines g.D.Delivery.takes g.D.Delivery.breaks {A = Unit {0}} l.fn.writer l.writer l.fn.sheet.begun l.sheet.begun
       (margined (drawn_of g.S.Cells.lines g.S.Cells.color l.frame.table.now l.cells) 0

@@ -38,7 +38,7 @@ pub push_plain_rule_line-requires : goal.push_plain_rule_line-requires
 push_plain_rule_line-requires g c = record {
   frame = c.requires.frame;
   plain = c.requires.plain;
-  own = c.requires.own;
+  common = c.requires.common;
   row_in = c.requires.row_in;
 }
 
@@ -75,8 +75,8 @@ returns-clause-lines g c = λ texts.
     (c.end_beside.ensures.bytes parts texts c.requires.frame)
     c.end_beside.ensures.begun))
 
-pub returns-clause-own : goal.returns-clause-own
-returns-clause-own g c = on_ok_weaker c.end_beside.result (λ written. c.in_ok-push_plain_rule_line.ensures.own) c.end_beside.ensures.written
+pub returns-clause-common : goal.returns-clause-common
+returns-clause-common g c = on_ok_weaker c.end_beside.result (λ written. c.in_ok-push_plain_rule_line.ensures.common) c.end_beside.ensures.written
 
 pub returns-clause-written : goal.returns-clause-written
 returns-clause-written g c = on_ok_weaker c.end_beside.result (λ more texts below.

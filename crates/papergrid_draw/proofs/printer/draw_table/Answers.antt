@@ -19,22 +19,22 @@ returns-in_err-check_tiles g c =
     rw (p.1, p.2) (draws-refused g.D.Delivery.takes g.D.Delivery.breaks _ d _ _
     (tile-refusal d _ (c.in_err-check_tiles.ensures.err (view_of c.args.table.now) (ap spanned_grid (sym c.config.ensures)) (sym c.shape.ensures))))
 
-pub returns-in_err-verticals : goal.returns-in_err-verticals
-returns-in_err-verticals g c =
+pub returns-in_err-frame : goal.returns-in_err-frame
+returns-in_err-frame g c =
     let d = drawn_of g.S.Cells.lines g.S.Cells.color c.args.table.now c.args.cells.now in
-    let p = err_from_is_err_and c.from_residual-in_err-verticals.result c.from_residual-in_err-verticals.ensures.1 in
+    let p = err_from_is_err_and c.from_residual-in_err-frame.result c.from_residual-in_err-frame.ensures.1 in
     rw (p.1, p.2) (draws-refused g.D.Delivery.takes g.D.Delivery.breaks _ d _ _ (memory-refusal d _))
 
 pub draw_tiled-requires-clause-tiled : goal.draw_tiled-requires-clause-tiled
 draw_tiled-requires-clause-tiled g c =
-    subst (λ (t : TableParts). IsTiled (view_of t)) (sym c.new-frame.ensures.table)
+    subst (λ (t : TableParts). IsTiled (view_of t)) (sym c.in_ok-frame.ensures.table)
     (c.in_ok-check_tiles.ensures.ok (view_of c.args.table.now) (ap spanned_grid (sym c.config.ensures)) (sym c.shape.ensures))
 
 pub draw_tiled-requires-clause-known : goal.draw_tiled-requires-clause-known
 draw_tiled-requires-clause-known g c = λ known.
-    subst (λ (t : TableParts). AllHaveRoom (drawn_of g.S.Cells.lines g.S.Cells.color t c.args.cells.now)) (sym c.new-frame.ensures.table) (c.requires known)
+    subst (λ (t : TableParts). AllHaveRoom (drawn_of g.S.Cells.lines g.S.Cells.color t c.args.cells.now)) (sym c.in_ok-frame.ensures.table) (c.requires known)
 
 pub returns : goal.returns
 returns g c =
     subst (λ (t : TableParts). Draws g.D.Delivery.takes g.D.Delivery.breaks (drawn_of g.S.Cells.lines g.S.Cells.color t c.args.cells.now) c.args.writer.now c.draw_tiled.new.writer
-    (join_with_byte 10 (printed_lines (drawn_of g.S.Cells.lines g.S.Cells.color t c.args.cells.now))) c.draw_tiled.result) c.new-frame.ensures.table c.draw_tiled.ensures
+    (join_with_byte 10 (printed_lines (drawn_of g.S.Cells.lines g.S.Cells.color t c.args.cells.now))) c.draw_tiled.result) c.in_ok-frame.ensures.table c.draw_tiled.ensures

@@ -12,6 +12,6 @@ returns c = record {
   high = c.height.ensures;
   fit = subst (λ n. n < 2 ^ 64) c.height.ensures c.height.type_inv;
   looks = subst (λ (s : SpannedConfig). IsLookedUp s c.new.result) c.config-config.ensures c.new.ensures;
-  many = c.requires.many;
-  verticals = c.requires.each;
+  verticals = c.in_ok-verticals.ensures;
+  characters = c.in_ok-characters.ensures;
 }
