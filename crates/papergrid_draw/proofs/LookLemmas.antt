@@ -5,6 +5,7 @@ use Rattle.std.specs.FinMap.{get}
 use Rattle.std.proofs.lemmas.Bool.{false_from_ne_true, iff_false}
 use Rattle.papergrid_values.specs.Keys.{sides_parts}
 use Rattle.papergrid_values.specs.Parts.{none_set}
+use Rattle.papergrid_values.specs.declared.alignment.AlignmentHorizontal.{AlignmentHorizontal}
 use Rattle.papergrid_values.specs.declared.ansi_buf.ANSIBuf.{ANSIBuf}
 use Rattle.papergrid_values.specs.declared.entity.Entity.TheVariants.{Global, Column, Row, Cell}
 use Rattle.papergrid_values.specs.declared.position.Position.{Position}
@@ -13,8 +14,11 @@ use Rattle.papergrid_maps.specs.StoredColors.{IsBlank}
 use Rattle.papergrid_maps.specs.StoredMap.{HasNothing, Stored, HoldsValue, stored_value}
 use Rattle.papergrid_config.specs.Queries.{HasFormatting, HasJustification, HasSetSide}
 use Rattle.papergrid_config.specs.declared.spanned.SpannedConfig.{SpannedConfig}
+use Rattle.papergrid_draw.specs.Contents as contents
 use Rattle.papergrid_draw.specs.Contents.{look_of}
+use Rattle.papergrid_draw.specs.ForProofs.Blanks.{IsBetweenBlanks}
 use Rattle.papergrid_draw.specs.ForProofs.Looks.{IsCommonLook}
+use Rattle.papergrid_draw.specs.declared.blanks.Blanks.{Blanks}
 
 -- ---- nothing is held
 
@@ -22,7 +26,7 @@ none_of : {T : Type 0} (o : Option T) → ((o ≡ None → ⊥) → ⊥) → o �
 none_of None refuted = refl
 none_of (Some v) refuted = absurd (refuted (λ e. (cc)))
 
-nothing_of : {T : Type 0} (held : Stored T) → ((HasNothing held → ⊥) → ⊥) → HasNothing held
+pub nothing_of : {T : Type 0} (held : Stored T) → ((HasNothing held → ⊥) → ⊥) → HasNothing held
 nothing_of held refuted = record {
   columns = λ c. none_of (get held.columns c) (λ other. refuted (λ nothing. other (nothing.columns c)));
   rows = λ r. none_of (get held.rows r) (λ other. refuted (λ nothing. other (nothing.rows r)));
@@ -39,7 +43,7 @@ blank_of held refuted = record {
 value_of_all : {T : Type 0} (held : Stored T) → HasNothing held → (p : Position) → stored_value held p ≡ held.global
 value_of_all held nothing p = λ i. unwrap_or (nothing.cells p i) (unwrap_or (nothing.columns p.col i) (unwrap_or (nothing.rows p.row i) held.global))
 
-same_value : {T : Type 0} (held : Stored T) → HasNothing held → (p q : Position) → stored_value held p ≡ stored_value held q
+pub same_value : {T : Type 0} (held : Stored T) → HasNothing held → (p q : Position) → stored_value held p ≡ stored_value held q
 same_value held nothing p q = value_of_all held nothing p ∙ sym (value_of_all held nothing q)
 
 -- ---- no colour is held
@@ -76,15 +80,15 @@ no_color held unset p = unset_is (stored_value held p) (λ set. unset (stored_va
 
 -- ---- a look
 
--- is that of each position
-pub common_look : (config : SpannedConfig) → IsCommonLook config → (p q : Position) → look_of config p ≡ look_of config q
+-- is that of each position, with the horizontal alignment there
+pub common_look : (config : SpannedConfig) → IsCommonLook config → (p q : Position) →
+    record (look_of config p) { horizontal = stored_value config.alignment_horizontal q } ≡ look_of config q
 common_look config common p q =
     let padding = same_value config.padding common.padding p q in
     let padding_color = no_color config.padding_color common.padding_color p ∙ sym (no_color config.padding_color common.padding_color q) in
     let trim_horizontal = same_value config.trim_horizontal common.trim_horizontal p q in
     let trim_vertical = same_value config.trim_vertical common.trim_vertical p q in
     let line_alignment = same_value config.line_alignment common.line_alignment p q in
-    let horizontal = same_value config.alignment_horizontal common.horizontal p q in
     let vertical = same_value config.alignment_vertical common.vertical p q in
     let justification = same_value config.justification common.justification p q in
     let color = same_value config.justification_color common.justification_color.nothing p q in
@@ -96,25 +100,42 @@ common_look config common p q =
         vertical_trim = trim_vertical i;
         allow_lines_alignment = line_alignment i;
       };
-      horizontal = horizontal i;
+      horizontal = stored_value config.alignment_horizontal q;
       vertical = vertical i;
       justification = justification i;
       justification_color = color i;
     }
 
+-- what stands between blanks does so by any horizontal alignment
+pub aligned_blanks : (look : contents.Look) (blanks : Blanks) (horizontal : AlignmentHorizontal) → IsBetweenBlanks look blanks →
+    IsBetweenBlanks (record look { horizontal = horizontal }) (record blanks { horizontal = horizontal })
+aligned_blanks look blanks horizontal between = record {
+  left = between.left;
+  right = between.right;
+  left_fill = between.left_fill;
+  right_fill = between.right_fill;
+  left_color = between.left_color;
+  right_color = between.right_color;
+  justification = between.justification;
+  justification_color = between.justification_color;
+  horizontal = refl;
+  top = between.top;
+  line = between.line;
+  lines = between.lines;
+}
+
 -- what the queries of a configuration answer
-pub record Answers (config : SpannedConfig) (padding padding_color formatting horizontal vertical justification : Bool) : Type 0 where
+pub record Answers (config : SpannedConfig) (padding padding_color formatting vertical justification : Bool) : Type 0 where
   pub of_padding : IsTrue padding ↔ (HasNothing config.padding → ⊥)
   pub of_padding_color : IsTrue padding_color ↔ HasSetSide config.padding_color
   pub of_formatting : IsTrue formatting ↔ HasFormatting config
-  pub of_horizontal : IsTrue horizontal ↔ (HasNothing config.alignment_horizontal → ⊥)
   pub of_vertical : IsTrue vertical ↔ (HasNothing config.alignment_vertical → ⊥)
   pub of_justification : IsTrue justification ↔ HasJustification config
 
-module _ (config : SpannedConfig) (padding padding_color formatting horizontal vertical justification : Bool) (told : Answers config padding padding_color formatting horizontal vertical justification) where
+module _ (config : SpannedConfig) (padding padding_color formatting vertical justification : Bool) (told : Answers config padding padding_color formatting vertical justification) where
   -- none of them found something: the look is common
-  pub common_from : padding ≡ false → padding_color ≡ false → formatting ≡ false → horizontal ≡ false → vertical ≡ false → justification ≡ false → IsCommonLook config
-  common_from a b c d e f =
+  pub common_from : padding ≡ false → padding_color ≡ false → formatting ≡ false → vertical ≡ false → justification ≡ false → IsCommonLook config
+  common_from a b c e f =
       let flags = iff_false told.of_formatting c in
       let fills = iff_false told.of_justification f in
       record {
@@ -123,19 +144,17 @@ module _ (config : SpannedConfig) (padding padding_color formatting horizontal v
         trim_horizontal = nothing_of config.trim_horizontal (λ other. flags (λ all. other all.0));
         trim_vertical = nothing_of config.trim_vertical (λ other. flags (λ all. other all.1.0));
         line_alignment = nothing_of config.line_alignment (λ other. flags (λ all. other all.1.1));
-        horizontal = nothing_of config.alignment_horizontal (iff_false told.of_horizontal d);
         vertical = nothing_of config.alignment_vertical (iff_false told.of_vertical e);
         justification = nothing_of config.justification (λ other. fills (λ all. other all.0));
         justification_color = blank_of config.justification_color (λ other. fills (λ all. other all.1));
       }
 
   -- and a common look leaves them nothing to find
-  pub nothing_found : IsCommonLook config → (padding ≡ false) × (padding_color ≡ false) × (formatting ≡ false) × (horizontal ≡ false) × (vertical ≡ false) × (justification ≡ false)
+  pub nothing_found : IsCommonLook config → (padding ≡ false) × (padding_color ≡ false) × (formatting ≡ false) × (vertical ≡ false) × (justification ≡ false)
   nothing_found common = (
     false_from_ne_true padding (λ found. told.of_padding.0 found common.padding),
     false_from_ne_true padding_color (λ found. common.padding_color (told.of_padding_color.0 found)),
     false_from_ne_true formatting (λ found. told.of_formatting.0 found (common.trim_horizontal, (common.trim_vertical, common.line_alignment))),
-    false_from_ne_true horizontal (λ found. told.of_horizontal.0 found common.horizontal),
     false_from_ne_true vertical (λ found. told.of_vertical.0 found common.vertical),
     false_from_ne_true justification (λ found. told.of_justification.0 found (common.justification, common.justification_color)),
   )

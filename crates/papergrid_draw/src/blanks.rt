@@ -44,6 +44,13 @@ impl Blanks {
         })
     }
 
+    /// The same by another horizontal alignment.
+    pub fn aligned(self, horizontal: AlignmentHorizontal) -> Blanks
+        ensures { result ≡ record self { horizontal = horizontal } }
+    {
+        Blanks { horizontal, ..self }
+    }
+
     /// Adds a text of one line, of this width, in a place that is so wide.
     pub fn push(
         &self,

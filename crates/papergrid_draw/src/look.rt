@@ -1,8 +1,10 @@
 //! The settings of a cell's text, read once.
 
-ghost use Rattle.std.specs.Prelude.{◌≡◌, ◌↔◌, IsFalse};
+ghost use Rattle.std.specs.Prelude.{◌≡◌, ◌↔◌, IfSome, IsFalse};
+ghost use Rattle.papergrid_maps.specs.StoredMap.{stored_value};
 ghost use Rattle.papergrid_draw.specs.Contents.{look_of};
-ghost use Rattle.papergrid_draw.specs.ForProofs.Looks.{IsCommonLook, IsLookedUp, look_seen};
+ghost use Rattle.papergrid_draw.specs.ForProofs.Blanks.{IsBetweenBlanks};
+ghost use Rattle.papergrid_draw.specs.ForProofs.Looks.{IsAlignmentOfAll, IsCommonLook, IsLookedUp, look_seen};
 
 use crate::blanks::Blanks;
 use papergrid_config::SpannedConfig;
@@ -40,10 +42,11 @@ impl<'a> Look<'a> {
 }
 
 /// The settings of all cells: where none is set for a column, a row or a cell, those of the whole table, and how
-/// texts stand between blanks by these.
+/// texts stand between blanks by these. The horizontal alignment stands apart, since columns often have their own.
 pub struct Looks<'a> {
     common: Option<Look<'a>>,
-    pub blanks: Option<Blanks>,
+    blanks: Option<Blanks>,
+    horizontal: Option<AlignmentHorizontal>,
 }
 
 // By hand: docs/DECISIONS.md, "Drops".
@@ -52,22 +55,32 @@ impl Drop for Looks<'_> {
         let Looks {
             common: _,
             blanks: _,
+            horizontal: _,
         } = self;
     }
 }
 
-/// Whether a setting of a text is set for a column, a row or a cell, or the colour of a padding or
-/// of a justification for the whole table.
+/// Whether a setting of a text but for its horizontal alignment is set for a column, a row or a cell, or the colour of a
+/// padding or of a justification for the whole table.
 fn has_own_look(config: &SpannedConfig) -> bool
     ensures { IsFalse result ↔ IsCommonLook config.now }
 {
     let padding = config.has_padding();
     let padding_color = config.has_padding_color();
     let formatting = config.has_formatting();
-    let horizontal = config.has_alignment_horizontal();
     let vertical = config.has_alignment_vertical();
     let justification = config.has_justification();
-    padding || padding_color || formatting || horizontal || vertical || justification
+    padding || padding_color || formatting || vertical || justification
+}
+
+/// The horizontal alignment of all cells, if none is set for a column, a row or a cell.
+fn common_alignment(config: &SpannedConfig) -> Option<AlignmentHorizontal>
+    ensures { IfSome result (IsAlignmentOfAll config.now) }
+{
+    if config.has_alignment_horizontal() {
+        return None;
+    }
+    Some(*config.get_alignment_horizontal(Position { row: 0, col: 0 }))
 }
 
 impl<'a> Looks<'a> {
@@ -79,12 +92,25 @@ impl<'a> Looks<'a> {
             return Looks {
                 common: None,
                 blanks: None,
+                horizontal: None,
             };
         }
         let look = Look::of(config, Position { row: 0, col: 0 });
         Looks {
             common: Some(look),
             blanks: Blanks::of(&look),
+            horizontal: common_alignment(config),
+        }
+    }
+
+    /// The horizontal alignment that this configuration has for the cell at a position.
+    fn horizontal(&self, config: &SpannedConfig, position: Position) -> AlignmentHorizontal
+        requires { IsLookedUp config.now self.now }
+        ensures { result ≡ stored_value config.now.alignment_horizontal position }
+    {
+        match self.horizontal {
+            Some(horizontal) => horizontal,
+            None => *config.get_alignment_horizontal(position),
         }
     }
 
@@ -94,8 +120,22 @@ impl<'a> Looks<'a> {
         ensures { look_seen result ≡ look_of config.now position }
     {
         match self.common {
-            Some(look) => look,
+            Some(look) => {
+                Look {
+                    horizontal: self.horizontal(config, position),
+                    ..look
+                }
+            }
             None => Look::of(config, position),
         }
+    }
+
+    /// How the text of the cell at a position stands between blanks, by this configuration; none where it does not.
+    pub fn blanks(&self, config: &SpannedConfig, position: Position) -> Option<Blanks>
+        requires { IsLookedUp config.now self.now }
+        ensures { IfSome result (IsBetweenBlanks (look_of config.now position)) }
+    {
+        let blanks = self.blanks?;
+        Some(blanks.aligned(self.horizontal(config, position)))
     }
 }

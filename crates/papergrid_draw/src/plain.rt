@@ -156,7 +156,7 @@ where
         ++ pieces_bytes (content (block_at d position) 0)) }
 {
     let width = frame.table.get_width(position.col);
-    if let Some(blanks) = &frame.looks.blanks {
+    if let Some(blanks) = frame.looks.blanks(frame.config, position) {
         if let (None, Some((text, own))) = (cells.color(position), cells.line(position)) {
             return blanks.push(text, own, width, line);
         }

@@ -1,4 +1,4 @@
-use Rattle.std.proofs.Common.{◌≡◌, ◌++◌, ◌∙◌, ap, string_bytes, sym}
+use Rattle.std.proofs.Common.{◌≡◌, ◌++◌, ◌∙◌, ap, string_bytes, subst, sym}
 use Rattle.std.proofs.lemmas.Result.{on_ok_weaker}
 use Rattle.papergrid_config.specs.declared.spanned.SpannedConfig.{SpannedConfig}
 use Rattle.papergrid_values.specs.declared.direction.Direction.TheVariants.{Columns, Rows}
@@ -6,6 +6,7 @@ use Rattle.papergrid_layout.specs.Places.{length_along}
 use Rattle.papergrid_draw.specs.Bytes.{pieces_bytes}
 use Rattle.papergrid_draw.specs.Contents.{content, look_of}
 use Rattle.papergrid_draw.specs.Drawings.{drawn_of, layout_of}
+use Rattle.papergrid_draw.specs.ForProofs.Blanks.{IsBetweenBlanks}
 use Rattle.papergrid_draw.proofs.BlankLemmas.{single_is}
 use Rattle.papergrid_draw.proofs.PlainLemmas.{plain-height, plain-width}
 use Rattle.papergrid_draw.proofs.plain.push_cell.Goals as goal
@@ -14,7 +15,7 @@ pub returns-in-None-Some : goal.returns-in-None-Some
 returns-in-None-Some g c =
     let d = drawn_of g.S.Cells.lines g.S.Cells.color c.args.frame.now.table.now c.args.cells.now in
     let p = c.args.position in
-    let between = c.requires.frame.looks.blanks c.in-Some.blanks c.in-Some.is p in
+    let between = subst (λ (s : SpannedConfig). IsBetweenBlanks (look_of s p) c.in-Some.blanks) c.requires.frame.config c.in-Some.ensures in
     let lines = sym (single_is (g.S.Cells.lines c.args.cells.now p) (c.in-None-Some.text.now, c.in-None-Some.own) (sym c.in-None-Some.ensures')) in
     let color = sym c.in-None-Some.ensures in
     let width : c.get_width-width.result ≡ length_along (layout_of d) Columns p = c.get_width-width.ensures ∙ sym (plain-width d c.requires.plain p) in
