@@ -3,6 +3,7 @@ use Rattle.std.proofs.Common.{◌≡◌, ℕ, ◌+◌, ◌-◌, List, [], ◌∷
 use Rattle.std.proofs.lemmas.List.{append-nil, replicate-append-replicate}
 use Rattle.std.specs.Prelude.{if◌then◌else◌}
 use Rattle.std.proofs.lemmas.Bool.{ne_eqb}
+use Rattle.papergrid_values.specs.declared.alignment.AlignmentHorizontal.{AlignmentHorizontal}
 use Rattle.papergrid_draw.specs.Bytes.{colored, pieces_bytes}
 use Rattle.papergrid_draw.specs.Contents as contents
 use Rattle.papergrid_draw.specs.Contents.{aligned_width, before, content, free_before, inner, shown_line, single_line}
@@ -45,13 +46,13 @@ module _ (look : contents.Look) (blanks : Blanks) (between : IsBetweenBlanks loo
     only = ap (λ trims. shown_line trims (text, own)) between.line
 
     -- and stands in the place of a text of one line
-    pub stands_between : (start rest : ℕ) → start ≡ free_before blanks.horizontal ((width - (blanks.left + blanks.right)) - own) → rest ≡ (width - (blanks.left + blanks.right)) - (start + own) →
+    pub stands_between : (horizontal : AlignmentHorizontal) (start rest : ℕ) → look.horizontal ≡ horizontal → start ≡ free_before horizontal ((width - (blanks.left + blanks.right)) - own) → rest ≡ (width - (blanks.left + blanks.right)) - (start + own) →
         replicate (blanks.left + start) 32 ++ text ++ replicate (rest + blanks.right) 32 ≡ pieces_bytes (content one_line 0)
-    stands_between start rest first last =
+    stands_between horizontal start rest same first last =
         let line = only_line one_line in
         let columns : inner one_line ≡ width - (blanks.left + blanks.right) = (λ i. width - (between.left i + between.right i)) in
         let aligned : aligned_width one_line line ≡ own = aligned-only one_line refl ∙ ap (λ l. l.1) only in
-        let starts : before one_line line ≡ start = (λ i. free_before (between.horizontal i) (columns i - aligned i)) ∙ sym first in
+        let starts : before one_line line ≡ start = (λ i. free_before (same i) (columns i - aligned i)) ∙ sym first in
         let ends : inner one_line - (before one_line line + line.1) ≡ rest = (λ i. columns i - (starts i + (only i).1)) ∙ sym last in
         sym (filled_by start rest)
         ∙ sym (λ i. filled_up look None (only i).0 (starts i, ends i))

@@ -108,7 +108,7 @@ common_look config common p q =
 
 -- what stands between blanks does so by any horizontal alignment
 pub aligned_blanks : (look : contents.Look) (blanks : Blanks) (horizontal : AlignmentHorizontal) → IsBetweenBlanks look blanks →
-    IsBetweenBlanks (record look { horizontal = horizontal }) (record blanks { horizontal = horizontal })
+    IsBetweenBlanks (record look { horizontal = horizontal }) blanks
 aligned_blanks look blanks horizontal between = record {
   left = between.left;
   right = between.right;
@@ -118,7 +118,6 @@ aligned_blanks look blanks horizontal between = record {
   right_color = between.right_color;
   justification = between.justification;
   justification_color = between.justification_color;
-  horizontal = refl;
   top = between.top;
   line = between.line;
   lines = between.lines;

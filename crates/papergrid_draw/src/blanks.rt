@@ -13,12 +13,11 @@ use crate::pen::push_blanks;
 use papergrid_values::AlignmentHorizontal;
 use std::alloc::AllocError;
 
-/// How texts are aligned between paddings and justification of blanks without colours, of which no line is trimmed.
+/// How many blanks stand beside texts between paddings and justification of blanks without colours, of which no line is trimmed.
 #[derive(Clone, Copy)]
 pub struct Blanks {
     left: usize,
     right: usize,
-    horizontal: AlignmentHorizontal,
 }
 
 impl Blanks {
@@ -40,27 +39,20 @@ impl Blanks {
         Some(Blanks {
             left: padding.left.size,
             right: padding.right.size,
-            horizontal: look.horizontal,
         })
-    }
-
-    /// The same by another horizontal alignment.
-    pub fn aligned(self, horizontal: AlignmentHorizontal) -> Blanks
-        ensures { result ≡ record self { horizontal = horizontal } }
-    {
-        Blanks { horizontal, ..self }
     }
 
     /// Adds a text of one line, of this width, in a place that is so wide.
     pub fn push(
         &self,
+        horizontal: AlignmentHorizontal,
         text: &str,
         own: usize,
         width: usize,
         line: &mut String,
     ) -> Result<(), AllocError>
         ensures { OnOk result ((look : contents.Look) → IsBetweenBlanks look self.now →
-            string_bytes line.new ≡ string_bytes line.old ++ pieces_bytes (content (record {
+            look.horizontal ≡ horizontal → string_bytes line.new ≡ string_bytes line.old ++ pieces_bytes (content (record {
               look = look;
               lines = (text.now, own) ∷ [];
               color = None;
@@ -69,7 +61,7 @@ impl Blanks {
             }) 0)) }
     {
         let inner = width.saturating_sub(self.left).saturating_sub(self.right);
-        let before = free_before(self.horizontal, inner.saturating_sub(own));
+        let before = free_before(horizontal, inner.saturating_sub(own));
         let after = inner.saturating_sub(before).saturating_sub(own);
         push_blanks(line, self.left + before)?;
         line.push_str(text)?;

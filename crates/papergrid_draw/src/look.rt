@@ -3,7 +3,6 @@
 ghost use Rattle.std.specs.Prelude.{◌≡◌, ◌↔◌, IfSome, IsFalse};
 ghost use Rattle.papergrid_maps.specs.StoredMap.{stored_value};
 ghost use Rattle.papergrid_draw.specs.Contents.{look_of};
-ghost use Rattle.papergrid_draw.specs.ForProofs.Blanks.{IsBetweenBlanks};
 ghost use Rattle.papergrid_draw.specs.ForProofs.Looks.{IsAlignmentOfAll, IsCommonLook, IsLookedUp, look_seen};
 
 use crate::blanks::Blanks;
@@ -45,7 +44,7 @@ impl<'a> Look<'a> {
 /// texts stand between blanks by these. The horizontal alignment stands apart, since columns often have their own.
 pub struct Looks<'a> {
     common: Option<Look<'a>>,
-    blanks: Option<Blanks>,
+    pub blanks: Option<Blanks>,
     horizontal: Option<AlignmentHorizontal>,
 }
 
@@ -104,7 +103,7 @@ impl<'a> Looks<'a> {
     }
 
     /// The horizontal alignment that this configuration has for the cell at a position.
-    fn horizontal(&self, config: &SpannedConfig, position: Position) -> AlignmentHorizontal
+    pub fn horizontal(&self, config: &SpannedConfig, position: Position) -> AlignmentHorizontal
         requires { IsLookedUp config.now self.now }
         ensures { result ≡ stored_value config.now.alignment_horizontal position }
     {
@@ -128,14 +127,5 @@ impl<'a> Looks<'a> {
             }
             None => Look::of(config, position),
         }
-    }
-
-    /// How the text of the cell at a position stands between blanks, by this configuration; none where it does not.
-    pub fn blanks(&self, config: &SpannedConfig, position: Position) -> Option<Blanks>
-        requires { IsLookedUp config.now self.now }
-        ensures { IfSome result (IsBetweenBlanks (look_of config.now position)) }
-    {
-        let blanks = self.blanks?;
-        Some(blanks.aligned(self.horizontal(config, position)))
     }
 }

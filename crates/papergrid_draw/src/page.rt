@@ -250,6 +250,7 @@ impl<'a> Frame<'a> {
     }
 
     /// Adds the character of the vertical line before a column, if there is one.
+    #[inline(always)]
     pub fn push_line_before(
         &self,
         position: Position,

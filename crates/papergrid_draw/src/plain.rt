@@ -156,9 +156,10 @@ where
         ++ pieces_bytes (content (block_at d position) 0)) }
 {
     let width = frame.table.get_width(position.col);
-    if let Some(blanks) = frame.looks.blanks(frame.config, position) {
+    if let Some(blanks) = &frame.looks.blanks {
         if let (None, Some((text, own))) = (cells.color(position), cells.line(position)) {
-            return blanks.push(text, own, width, line);
+            let horizontal = frame.looks.horizontal(frame.config, position);
+            return blanks.push(horizontal, text, own, width, line);
         }
     }
     let cell = cells.cell(position)?;

@@ -13,7 +13,6 @@ pub record IsBetweenBlanks (look : contents.Look) (blanks : Blanks) : Type 0 whe
   pub right_color : look.padding_color.right ≡ None
   pub justification : look.justification ≡ 32
   pub justification_color : look.justification_color ≡ None
-  pub horizontal : look.horizontal ≡ blanks.horizontal
   pub top : look.padding.top.size ≡ 0
   pub line : look.formatting.horizontal_trim ≡ false
   pub lines : look.formatting.vertical_trim ≡ false

@@ -44,6 +44,5 @@ IsAlignmentOfAll config horizontal = (p : Position) → horizontal ≡ stored_va
 pub record IsLookedUp (config : SpannedConfig) (looks : Looks) : Type 0 where
   pub alike : (look : Look) → looks.common ≡ Some look → (p : Position) →
       record (look_seen look) { horizontal = stored_value config.alignment_horizontal p } ≡ look_of config p
-  pub blanks : (blanks : Blanks) → looks.blanks ≡ Some blanks → (p : Position) →
-      IsBetweenBlanks (look_of config p) (record blanks { horizontal = stored_value config.alignment_horizontal p })
+  pub blanks : (blanks : Blanks) → looks.blanks ≡ Some blanks → (p : Position) → IsBetweenBlanks (look_of config p) blanks
   pub horizontal : (horizontal : AlignmentHorizontal) → looks.horizontal ≡ Some horizontal → IsAlignmentOfAll config horizontal

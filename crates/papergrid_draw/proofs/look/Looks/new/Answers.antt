@@ -28,7 +28,7 @@ returns c =
           let e : c.of-look.result ≡ look = cc in
           ap (λ (l : Look). record (look_seen l) { horizontal = stored_value config.alignment_horizontal p }) (sym e) ∙ seen p;
       blanks = λ blanks same p.
-          subst (λ look. IsBetweenBlanks look (record blanks { horizontal = stored_value config.alignment_horizontal p })) (seen p)
+          subst (λ look. IsBetweenBlanks look blanks) (seen p)
           (aligned_blanks (look_seen c.of-look.result) blanks (stored_value config.alignment_horizontal p)
           (subst (λ found. IfSome found (IsBetweenBlanks (look_seen c.of-look.result))) same c.of.ensures));
       horizontal = λ horizontal same.
