@@ -52,7 +52,8 @@ impl Blanks {
         line: &mut String,
     ) -> Result<(), AllocError>
         ensures { OnOk result ((look : contents.Look) → IsBetweenBlanks look self.now →
-            look.horizontal ≡ horizontal → string_bytes line.new ≡ string_bytes line.old ++ pieces_bytes (content (record {
+            look.horizontal ≡ horizontal →
+            string_bytes line.new ≡ string_bytes line.old ++ pieces_bytes (content (record {
               look = look;
               lines = (text.now, own) ∷ [];
               color = None;
