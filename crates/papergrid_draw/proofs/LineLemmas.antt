@@ -1,6 +1,6 @@
 -- What is added for a text line of a row, column by column.
-use Rattle.std.proofs.Common.{◌≡◌, ◌∙◌, ap, sym, subst, ℕ, ◌+◌, ◌-◌, ◌^◌, ◌<◌, ◌≤◌, Bool, true, false, cond, List, [], ◌∷◌, ◌++◌, Some, None, get_or, length, append_assoc, arith}
-use Rattle.std.specs.Prelude.{if◌then◌else◌, nat_lt, slice_index}
+use Rattle.std.proofs.Common.{◌≡◌, ◌∙◌, ap, sym, subst, ℕ, ◌+◌, ◌-◌, ◌<◌, ◌≤◌, Bool, true, false, cond, List, [], ◌∷◌, ◌++◌, Some, None, get_or, length, append_assoc, arith}
+use Rattle.std.specs.Prelude.{if◌then◌else◌, nat_lt}
 use Rattle.std.specs.List.{flat_map, range_with_len}
 use Rattle.std.proofs.lemmas.Bool.{le-ltb}
 use Rattle.std.proofs.lemmas.List.{append-nil}
@@ -9,7 +9,6 @@ use Rattle.papergrid_values.specs.Positions.{position_of}
 use Rattle.papergrid_values.specs.declared.direction.Direction.TheVariants.{Rows}
 use Rattle.papergrid_tracks.proofs.LoopLemmas.{range_with_len-append}
 use Rattle.papergrid_layout.specs.Places.{begin_along, total_along, track_line, track_size}
-use Rattle.papergrid_layout.specs.Tables.{TableParts}
 use Rattle.papergrid_layout.proofs.PlaceSums.{offset-next, offset-rises}
 use Rattle.papergrid_draw.specs.Bytes.{piece_bytes, pieces_bytes}
 use Rattle.papergrid_draw.specs.Characters.{vertical}
@@ -18,7 +17,7 @@ use Rattle.papergrid_draw.specs.Contents.{content}
 use Rattle.papergrid_draw.specs.Drawings.{Drawing, layout_of}
 use Rattle.papergrid_draw.specs.Drawn.{column_pieces, draws_vertical, text_line, vertical_pieces}
 use Rattle.papergrid_draw.specs.Pieces.{Piece}
-use Rattle.papergrid_draw.specs.ForProofs.Pages.{AreSlots, IsFrame, IsSlot, Texts, drawing_of, slot_at, text_start}
+use Rattle.papergrid_draw.specs.ForProofs.Pages.{AreSlots, IsSlot, Texts, drawing_of, slot_at, text_start}
 use Rattle.papergrid_draw.specs.declared.page.Frame.{Frame}
 use Rattle.papergrid_draw.specs.declared.page.Slot.{Slot}
 use Rattle.papergrid_draw.proofs.PageLemmas.{begins-before, column-none, column-some, slot-next}
@@ -93,11 +92,11 @@ module _ (d : Drawing) where
         )
 
     -- fewer are drawn than the table has
-    pub slot-fits : r < d.shape.0 → k < d.heights r → total_along (layout_of d) Rows < 2 ^ 64 → slot.drawn + 1 < 2 ^ 64
-    slot-fits inside few fit =
+    pub drawn-within : r < d.shape.0 → k < d.heights r → slot.drawn < total_along (layout_of d) Rows
+    drawn-within inside few =
         let drawn : slot.drawn ≡ text_start d r + k - begin_along (layout_of d) Rows is.0 = ap (λ (s : Slot T). s.drawn) is.2 in
         let ends = text-within r inside in
-        omega (arith, drawn, ends, few, fit)
+        omega (arith, drawn, ends, few)
 
     -- nothing is added where nothing is kept to draw
     pub column-skipped : (before after : List ℕ) → slot.block ≡ None → after ≡ before → after ≡ before ++ pieces_bytes (column_pieces d r k c)
@@ -123,21 +122,17 @@ module _ (d : Drawing) where
 
 -- ---- what is read of a table once
 
-module _ {parts : TableParts} {frame : Frame} (read : IsFrame parts frame) where
+module _ (frame : Frame) where
   -- its columns
-  pub frame-columns : frame.shape.1 ≡ length parts.widths
-  frame-columns = ap (λ (s : ℕ × ℕ). s.1) read.shape
+  pub frame-columns : frame.shape.1 ≡ length frame.table.now.widths
+  frame-columns = ap (λ (s : ℕ × ℕ). s.1) frame.read.shape_is
 
   -- each has a slot
-  pub slot-there : {T : Type 0} (texts : Texts) (r col : ℕ) (y : ℕ → ℕ) (slots : List (Slot T)) → AreSlots (drawing_of parts texts) r y slots →
+  pub slot-there : {T : Type 0} (texts : Texts) (r col : ℕ) (y : ℕ → ℕ) (slots : List (Slot T)) → AreSlots (drawing_of frame.table.now texts) r y slots →
       col < frame.shape.1 → col < length slots
   slot-there texts r col y slots are inside = let wide = frame-columns in omega (arith, inside, wide, are.each)
 
-  -- the height of a row
-  pub frame-height : (row height : ℕ) → height ≡ slice_index frame.table.now.heights row → height ≡ slice_index parts.heights row
-  frame-height row height is = is ∙ ap (λ (t : TableParts). slice_index t.heights row) read.table
-
   -- whether a line is drawn before a column
   pub frame-line : (texts : Texts) (j : ℕ) (kept : Bool) → j ≤ frame.shape.1 → kept ≡ get_or frame.verticals.items j kept →
-      draws_vertical (drawing_of parts texts) j ≡ kept
-  frame-line texts j kept within is = sym (is ∙ read.verticals.each texts j kept (let wide = frame-columns in omega (arith, within, wide)))
+      draws_vertical (drawing_of frame.table.now texts) j ≡ kept
+  frame-line texts j kept within is = sym (is ∙ frame.read.verticals_are.each texts j kept (let wide = frame-columns in omega (arith, within, wide)))

@@ -22,7 +22,6 @@ use Rattle.papergrid_config.specs.Grids.{spanned_grid}
 use Rattle.papergrid_config.specs.Queries.{HasCommonLines}
 use Rattle.papergrid_config.specs.declared.spanned.SpannedConfig.{SpannedConfig}
 use Rattle.papergrid_layout.specs.Places.{IsInsideTable, begin_along, extent, length_along, sum_from, track_line, track_size}
-use Rattle.papergrid_layout.specs.Tables.{TableParts}
 use Rattle.papergrid_draw.specs.Bytes.{piece_bytes, pieces_bytes}
 use Rattle.papergrid_draw.specs.Characters.{vertical, vertical_character, vertical_color}
 use Rattle.papergrid_draw.specs.Contents as contents
@@ -31,10 +30,9 @@ use Rattle.papergrid_draw.specs.Drawings.{Drawing, layout_of}
 use Rattle.papergrid_draw.specs.Drawn.{after_these, column_pieces, content_from, draws_vertical, owner_at, stands_over, stands_over_crossing, vertical_pieces}
 use Rattle.papergrid_draw.specs.Pieces.{Line, fill_text}
 use Rattle.papergrid_draw.specs.Tiles.{IsTiled}
-use Rattle.papergrid_draw.specs.ForProofs.Pages.{AreSlots, IsFrame, IsSlot, Texts, drawing_of, text_start}
+use Rattle.papergrid_draw.specs.ForProofs.Pages.{AreSlots, character_bytes, IsSlot, text_start}
 use Rattle.papergrid_draw.specs.ForProofs.Plain.{IsPlain}
 use Rattle.papergrid_draw.specs.ForProofs.Sheets.{AtText}
-use Rattle.papergrid_draw.specs.declared.page.Frame.{Frame}
 use Rattle.papergrid_draw.specs.declared.page.Slot.{Slot}
 use Rattle.papergrid_draw.specs.declared.sheet.Sheet.{Sheet}
 use Rattle.papergrid_draw.proofs.PageLemmas.{crossing-test, over-test}
@@ -208,7 +206,7 @@ module _ (d : Drawing) (common : HasCommonLines d.config) where
       (no-vertical (parts_of_borders d.config.colors) p d.shape.1 common.colors)
       ∙ unfound (override_at d.config.vertical_colors p) k height (common.vertical_colors p)
 
-  pub common-vertical : (r c k character : ℕ) (q : Position) → draws_vertical d c ≡ true → c ≡ q.col →
+  common-vertical : (r c k character : ℕ) (q : Position) → draws_vertical d c ≡ true → c ≡ q.col →
       character ≡ unwrap_or (found_vertical (parts_of_borders d.config.characters) q d.shape.1) d.config.missing →
       pieces_bytes (vertical_pieces d r c k) ≡ fill_text character 1
   common-vertical r c k character q some same is =
@@ -218,17 +216,22 @@ module _ (d : Drawing) (common : HasCommonLines d.config) where
       (common-color p (d.heights r) k)
       ∙ ap (λ n. fill_text n 1) (common-character p q (d.heights r) k same ∙ sym is)
 
+  -- and there are no bytes where no line is drawn
+  pub common-bytes : (r c k : ℕ) (found : Option ℕ) (q : Position) (drawn : Bool) → draws_vertical d c ≡ drawn → c ≡ q.col →
+      found ≡ (if drawn then Some (unwrap_or (found_vertical (parts_of_borders d.config.characters) q d.shape.1) d.config.missing) else None) →
+      pieces_bytes (vertical_pieces d r c k) ≡ character_bytes found
+  common-bytes r c k found q true some same is = common-vertical r c k _ q some same refl ∙ ap character_bytes (sym is)
+  common-bytes r c k found q false none same is =
+      ap (λ b. pieces_bytes (if b then vertical d.config d.shape (position_of (r, c)) (d.heights r) k ∷ [] else [])) none ∙ ap character_bytes (sym is)
+
 -- ---- rows
 
 -- the cells of a row are taken before its first line
-pub text-comes : {T : Type 0} (parts : TableParts) (texts : Texts) (frame : Frame) (r : ℕ) (sheet : Sheet) (slots lent : List (Slot T)) →
-    IsFrame parts frame → r < length parts.heights → sheet.written ≡ text_start (drawing_of parts texts) r →
-    AreSlots (drawing_of parts texts) r (λ _. text_start (drawing_of parts texts) r) slots → lent ≡ slots → AtText parts texts frame r 0 sheet lent
-text-comes {T} parts texts frame r sheet slots lent read below start are same =
-    let d = drawing_of parts texts in
+pub text-comes : {T : Type 0} (d : Drawing) (r : ℕ) (sheet : Sheet) (slots lent : List (Slot T)) →
+    r < d.shape.0 → sheet.written ≡ text_start d r → AreSlots d r (λ _. text_start d r) slots → lent ≡ slots → AtText d r 0 sheet lent
+text-comes {T} d r sheet slots lent below start are same =
     let first : text_start d r ≡ text_start d r + 0 = omega arith in
     record {
-      frame_is = read;
       row_in = below;
       written = start ∙ first;
       kept = subst (λ (s : List (Slot T)). AreSlots d r (λ _. text_start d r + 0) s) (sym same) (slots-at d r (text_start d r) (text_start d r + 0) slots first are);

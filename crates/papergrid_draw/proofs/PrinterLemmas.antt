@@ -17,9 +17,8 @@ use Rattle.papergrid_draw.specs.Bytes.{line_bytes}
 use Rattle.papergrid_draw.specs.Drawings.{Drawing, layout_of}
 use Rattle.papergrid_draw.specs.Drawn.{DrawnLine, RuleLine, TextLine, drawn_lines, draws_horizontal, row_lines, rule_line, rule_lines, text_line}
 use Rattle.papergrid_draw.specs.Margins.{beside, margin_line, printed, printed_lines, whole_width, with_margins}
-use Rattle.papergrid_draw.specs.ForProofs.Pages.{AreSlotsSet, AreSlots, IsFrame, IsSlot, Texts, drawing_of, row_start, text_start}
+use Rattle.papergrid_draw.specs.ForProofs.Pages.{AreSlotsSet, AreSlots, IsSlot, Texts, drawing_of, row_start, text_start}
 use Rattle.papergrid_draw.specs.ForProofs.Sheets.{AtRow, AtRule, AtText, IsCutShort, Writes, WritesLines, left_margin_at, lines_after, margined, right_margin_at, separator, first_text_lines}
-use Rattle.papergrid_draw.specs.declared.page.Frame.{Frame}
 use Rattle.papergrid_draw.specs.declared.page.Slot.{Slot}
 use Rattle.papergrid_draw.specs.declared.sheet.Sheet.{Sheet}
 use Rattle.papergrid_draw.proofs.SheetLemmas.{enumerate_from-append, lines-beside, lines-cut, lines-then, lines_after-all}
@@ -217,86 +216,76 @@ module _ (d : Drawing) where
 
 -- ---- steps
 
-module _ (parts : TableParts) (texts : Texts) (frame : Frame) where
-  abbrev its : Drawing
-  its = drawing_of parts texts
-
+module _ (its : Drawing) where
   -- no line is drawn before a row
-  pub text-unruled : {T : Type 0} (r : ℕ) (sheet : Sheet) (slots : List (Slot T)) → AtRule parts texts frame r sheet slots → r < length parts.heights →
-      draws_horizontal its r ≡ false → AtText parts texts frame r 0 sheet slots
+  pub text-unruled : {T : Type 0} (r : ℕ) (sheet : Sheet) (slots : List (Slot T)) → AtRule its r sheet slots → r < its.shape.0 →
+      draws_horizontal its r ≡ false → AtText its r 0 sheet slots
   text-unruled r sheet slots at l none =
       let after : text_start its r ≡ row_start its r + cond (draws_horizontal its r) 1 0 = text-after its r in
       let zero_lines : cond {A = ℕ} (draws_horizontal its r) 1 0 ≡ 0 = ap (λ b. cond {A = ℕ} b 1 0) none in
       record {
-        frame_is = at.frame_is;
         row_in = l;
         written = (let e : sheet.written ≡ text_start its r + 0 = omega (arith, at.written) in e);
         kept = slots-at its r (row_start its r) (text_start its r + 0) slots (omega arith) (at.kept l);
       }
 
   -- one is, and is written
-  pub text-ruled : {T : Type 0} (r : ℕ) (sheet later : Sheet) (slots drawn_over : List (Slot T)) → AtRule parts texts frame r sheet slots → r < length parts.heights →
-      draws_horizontal its r ≡ true → later.written ≡ sheet.written + 1 → AreSlots its r (λ _. text_start its r) drawn_over → AtText parts texts frame r 0 later drawn_over
+  pub text-ruled : {T : Type 0} (r : ℕ) (sheet later : Sheet) (slots drawn_over : List (Slot T)) → AtRule its r sheet slots → r < its.shape.0 →
+      draws_horizontal its r ≡ true → later.written ≡ sheet.written + 1 → AreSlots its r (λ _. text_start its r) drawn_over → AtText its r 0 later drawn_over
   text-ruled r sheet later slots drawn_over at l is more kept =
       let after : text_start its r ≡ row_start its r + cond (draws_horizontal its r) 1 0 = text-after its r in
       let one_line : cond {A = ℕ} (draws_horizontal its r) 1 0 ≡ 1 = ap (λ b. cond {A = ℕ} b 1 0) is in
       record {
-        frame_is = at.frame_is;
         row_in = l;
         written = (let e : later.written ≡ text_start its r + 0 = omega (arith, at.written, more) in e);
         kept = slots-at its r (text_start its r) (text_start its r + 0) drawn_over (omega arith) kept;
       }
 
   -- after a text line comes the next
-  pub text-next : {T : Type 0} (r k : ℕ) (sheet later : Sheet) (slots drawn_on : List (Slot T)) → AtText parts texts frame r k sheet slots → later.written ≡ sheet.written + 1 →
-      AreSlots its r (λ _. text_start its r + (k + 1)) drawn_on → AtText parts texts frame r (k + 1) later drawn_on
+  pub text-next : {T : Type 0} (r k : ℕ) (sheet later : Sheet) (slots drawn_on : List (Slot T)) → AtText its r k sheet slots → later.written ≡ sheet.written + 1 →
+      AreSlots its r (λ _. text_start its r + (k + 1)) drawn_on → AtText its r (k + 1) later drawn_on
   text-next r k sheet later slots drawn_on at more kept = record {
-    frame_is = at.frame_is;
     row_in = at.row_in;
     written = (let e : later.written ≡ text_start its r + (k + 1) = omega (arith, at.written, more) in e);
     kept = kept;
   }
 
   -- after the last one the next row
-  pub row-next : {T : Type 0} (r : ℕ) (sheet : Sheet) (slots : List (Slot T)) → AtText parts texts frame r (its.heights r) sheet slots → AtRow parts texts frame (r + 1) sheet slots
+  pub row-next : {T : Type 0} (r : ℕ) (sheet : Sheet) (slots : List (Slot T)) → AtText its r (its.heights r) sheet slots → AtRow its (r + 1) sheet slots
   row-next r sheet slots at = record {
-    frame_is = at.frame_is;
     written = at.written ∙ sym (row-after its r);
     kept = slots-next its r slots (slots-at its r (text_start its r + its.heights r) (row_start its (r + 1)) slots (sym (row-after its r)) at.kept);
   }
 
   -- the cells of a row are taken
-  pub rule-comes : {T : Type 0} (r : ℕ) (sheet : Sheet) (slots taken : List (Slot T)) → AtRow parts texts frame r sheet slots → r < length parts.heights →
-      AreSlotsSet its r (length parts.widths) taken → AtRule parts texts frame r sheet taken
+  pub rule-comes : {T : Type 0} (r : ℕ) (sheet : Sheet) (slots taken : List (Slot T)) → AtRow its r sheet slots → r < its.shape.0 →
+      AreSlotsSet its r (its.shape.1) taken → AtRule its r sheet taken
   rule-comes r sheet slots taken at l are = record {
-    frame_is = at.frame_is;
-    row_in = (let le : r ≤ length parts.heights = omega arith in le);
+    row_in = (let le : r ≤ its.shape.0 = omega arith in le);
     written = at.written;
     each = are.each;
-    kept = λ l'. slots-set its r (length parts.widths) taken refl are;
+    kept = λ l'. slots-set its r (its.shape.1) taken refl are;
   }
 
   -- after the last row
-  pub rule-ends : {T : Type 0} (r : ℕ) (sheet : Sheet) (slots : List (Slot T)) → AtRow parts texts frame r sheet slots → r ≡ length parts.heights → AtRule parts texts frame r sheet slots
+  pub rule-ends : {T : Type 0} (r : ℕ) (sheet : Sheet) (slots : List (Slot T)) → AtRow its r sheet slots → r ≡ its.shape.0 → AtRule its r sheet slots
   rule-ends r sheet slots at end = record {
-    frame_is = at.frame_is;
-    row_in = (let le : r ≤ length parts.heights = omega arith in le);
+    row_in = (let le : r ≤ its.shape.0 = omega arith in le);
     written = at.written;
     each = at.kept.each;
     kept = λ l. absurd (omega arith);
   }
 
   -- told of the number of rows and of the slots otherwise
-  pub rule-last : {T : Type 0} (r rows : ℕ) (sheet : Sheet) (slots lent : List (Slot T)) → AtRow parts texts frame r sheet slots → r ≡ length parts.heights →
-      r ≡ rows → slots ≡ lent → AtRule parts texts frame rows sheet lent
+  pub rule-last : {T : Type 0} (r rows : ℕ) (sheet : Sheet) (slots lent : List (Slot T)) → AtRow its r sheet slots → r ≡ its.shape.0 →
+      r ≡ rows → slots ≡ lent → AtRule its rows sheet lent
   rule-last r rows sheet slots lent at end last same =
-      subst (λ n. AtRule parts texts frame n sheet lent) last
-      (subst (λ l. AtRule parts texts frame r sheet l) same (rule-ends r sheet slots at end))
+      subst (λ n. AtRule its n sheet lent) last
+      (subst (λ l. AtRule its r sheet l) same (rule-ends r sheet slots at end))
 
-  pub row-first : {T : Type 0} (sheet : Sheet) (slots : List (Slot T)) → IsFrame parts frame → sheet.written ≡ 0 →
-      length slots ≡ length parts.widths → AtRow parts texts frame 0 sheet slots
-  row-first sheet slots is none each = record {
-    frame_is = is;
+  pub row-first : {T : Type 0} (sheet : Sheet) (slots : List (Slot T)) → sheet.written ≡ 0 →
+      length slots ≡ its.shape.1 → AtRow its 0 sheet slots
+  row-first sheet slots none each = record {
     written = none;
     kept = slots-none its slots each;
   }
@@ -306,13 +295,12 @@ some-where true y = refl
 some-where false y = refl
 
 -- whether there is a horizontal line
-pub line-told : (parts t : TableParts) (texts : Texts) (r : ℕ) (found : Option ℕ) (is : Bool) → t ≡ parts → r ≤ length parts.heights →
-    found ≡ line_position (view_of t) Rows r → is_some found ≡ is → draws_horizontal (drawing_of parts texts) r ≡ is
-line-told parts t texts r found is same le at some =
+pub line-told : (parts : TableParts) (texts : Texts) (r : ℕ) (found : Option ℕ) (is : Bool) → r ≤ length parts.heights →
+    found ≡ line_position (view_of parts) Rows r → is_some found ≡ is → draws_horizontal (drawing_of parts texts) r ≡ is
+line-told parts texts r found is le at some =
     let has = track_line (view_of parts) Rows r in
     let within : leb r (length parts.heights) ≡ true = le-leb r (length parts.heights) le in
-    ap (λ b. b && has) (sym within) ∙ sym (some-where (leb r (length parts.heights) && has) _)
-    ∙ ap is_some (sym (at ∙ ap (λ p. line_position (view_of p) Rows r) same)) ∙ some
+    ap (λ b. b && has) (sym within) ∙ sym (some-where (leb r (length parts.heights) && has) _) ∙ ap is_some (sym at) ∙ some
 
 -- one that is there
 pub rule_lines-one : (d : Drawing) (r : ℕ) → draws_horizontal d r ≡ true → RuleLine (rule_line d r) ∷ [] ≡ rule_lines d r

@@ -9,7 +9,6 @@ use Rattle.papergrid_values.specs.declared.direction.Direction.TheVariants.{Rows
 use Rattle.papergrid_values.specs.declared.position.Position.{Position}
 use Rattle.papergrid_values.specs.MapKeys.{position_eq}
 use Rattle.papergrid_layout.specs.Places.{begin_along, total_along, track_line, track_size}
-use Rattle.papergrid_layout.specs.Tables.{TableParts}
 use Rattle.papergrid_layout.proofs.PlaceSums.{offset-rises}
 use Rattle.papergrid_draw.specs.Bytes.{rule_bytes, suffix_of}
 use Rattle.papergrid_draw.specs.Characters.{crossing, segment}
@@ -17,8 +16,7 @@ use Rattle.papergrid_draw.specs.Contents as contents
 use Rattle.papergrid_draw.specs.Contents.{block_at, content}
 use Rattle.papergrid_draw.specs.Drawings.{Drawing, layout_of}
 use Rattle.papergrid_draw.specs.Drawn.{OnLine, Stretch, column_stretch, content_from, crossing_stretch, draws_horizontal, draws_vertical, over_line, owner_at, rule_line, stands_over, stands_over_crossing}
-use Rattle.papergrid_draw.specs.Tiles.{IsTiled}
-use Rattle.papergrid_draw.specs.ForProofs.Pages.{IsFrame, IsSlot, Texts, drawing_of, row_start, slot_at, text_start}
+use Rattle.papergrid_draw.specs.ForProofs.Pages.{IsSlot, Texts, drawing_of, row_start, slot_at, text_start}
 use Rattle.papergrid_draw.specs.ForProofs.Pens.{AddsStretches, stretches_over}
 use Rattle.papergrid_draw.specs.declared.page.Frame.{Frame}
 use Rattle.papergrid_draw.specs.declared.page.Slot.{Slot}
@@ -142,75 +140,70 @@ module _ (d : Drawing) where
 lt-of-le : (a b n : ℕ) → a ≤ b → b < n → a < n
 lt-of-le a b n few below = omega (arith, few, below)
 
-module _ (parts : TableParts) (frame : Frame) (read : IsFrame parts frame) where
-  rows-read : frame.shape.0 ≡ length parts.heights
-  rows-read = ap (λ (s : ℕ × ℕ). s.0) read.shape
+module _ (frame : Frame) where
+  rows-read : frame.shape.0 ≡ length frame.table.now.heights
+  rows-read = ap (λ (s : ℕ × ℕ). s.0) frame.read.shape_is
 
   -- the columns that are passed
-  pub column-in : (col : ℕ) → col < frame.shape.1 → col < length parts.widths
-  column-in col below = subst (λ n. col < n) (frame-columns read) below
+  pub column-in : (col : ℕ) → col < frame.shape.1 → col < length frame.table.now.widths
+  column-in col below = subst (λ n. col < n) (frame-columns frame) below
 
-  pub columns-all : (col : ℕ) → frame.shape.1 ≤ col → col ≤ frame.shape.1 → col ≡ length parts.widths
-  columns-all col past within = (let e : col ≡ frame.shape.1 = omega (arith, past, within) in e) ∙ frame-columns read
+  pub columns-all : (col : ℕ) → frame.shape.1 ≤ col → col ≤ frame.shape.1 → col ≡ length frame.table.now.widths
+  columns-all col past within = (let e : col ≡ frame.shape.1 = omega (arith, past, within) in e) ∙ frame-columns frame
 
-  pub columns-past : (col : ℕ) → frame.shape.1 ≤ col → length parts.widths ≤ col
-  columns-past col past = subst (λ n. n ≤ col) (frame-columns read) past
+  pub columns-past : (col : ℕ) → frame.shape.1 ≤ col → length frame.table.now.widths ≤ col
+  columns-past col past = subst (λ n. n ≤ col) (frame-columns frame) past
 
   -- the line after the last one
-  pub last-in : frame.shape.1 ≤ length parts.widths
-  last-in = let wide = frame-columns read in omega (arith, wide)
+  pub last-in : frame.shape.1 ≤ length frame.table.now.widths
+  last-in = let wide = frame-columns frame in omega (arith, wide)
 
   pub last-kept : frame.shape.1 < frame.verticals.len
-  last-kept = let wide = frame-columns read in omega (arith, wide, read.verticals.many, frame.verticals.ok.0)
+  last-kept = let wide = frame-columns frame in omega (arith, wide, frame.read.verticals_are.many, frame.verticals.ok.0)
 
   pub last-line : (texts : Texts) (kept : Bool) → kept ≡ get_or frame.verticals.items frame.shape.1 kept →
-      draws_vertical (drawing_of parts texts) frame.shape.1 ≡ kept
-  last-line texts kept is = frame-line read texts frame.shape.1 kept (omega arith) is
+      draws_vertical (drawing_of frame.table.now texts) frame.shape.1 ≡ kept
+  last-line texts kept is = frame-line frame texts frame.shape.1 kept (omega arith) is
 
   -- each has a slot
-  pub column-there : {T : Type 0} (slots : List (Slot T)) (col : ℕ) → length slots ≡ length parts.widths → col < frame.shape.1 → col < length slots
+  pub column-there : {T : Type 0} (slots : List (Slot T)) (col : ℕ) → length slots ≡ length frame.table.now.widths → col < frame.shape.1 → col < length slots
   column-there slots col each below = let inside = column-in col below in omega (arith, each, inside)
 
-  -- the lines of the table are those of these parts
-  pub line-read : (other : TableParts) (texts told : Texts) (r : ℕ) → IsFrame other frame → draws_horizontal (drawing_of other told) r ≡ true →
-      draws_horizontal (drawing_of parts texts) r ≡ true
-  line-read other texts told r also line = subst (λ (t : TableParts). draws_horizontal (drawing_of t texts) r ≡ true) (sym also.table ∙ read.table) line
-
   -- the lines of a cell that are drawn before a horizontal line are fewer than those of the table
-  pub drawn-below : {T : Type 0} (texts : Texts) (r c : ℕ) (slot : Slot T) → r < length parts.heights → draws_horizontal (drawing_of parts texts) r ≡ true →
-      IsSlot (drawing_of parts texts) r c (row_start (drawing_of parts texts) r) slot → slot.drawn < frame.height
+  pub drawn-below : {T : Type 0} (texts : Texts) (r c : ℕ) (slot : Slot T) → r < length frame.table.now.heights → draws_horizontal (drawing_of frame.table.now texts) r ≡ true →
+      IsSlot (drawing_of frame.table.now texts) r c (row_start (drawing_of frame.table.now texts) r) slot → slot.drawn < frame.height
   drawn-below texts r c slot below line is =
-      let d = drawing_of parts texts in
-      subst (λ n. slot.drawn < n) (sym read.high)
+      let d = drawing_of frame.table.now texts in
+      subst (λ n. slot.drawn < n) (sym frame.read.high)
       (lt-of-le slot.drawn (row_start d r) (total_along (layout_of d) Rows) (drawn-before d r c slot is) (line-within d r (omega (arith, below)) line))
 
   -- what is asked of the owner of a column
   module _ (r : ℕ) (o : Position) (answer : Bool) (told : answer ≡ (nat_lt 0 r && (nat_lt r frame.shape.0 && nat_lt o.row r))) where
-    pub over-so : answer ≡ true → (r < length parts.heights) × (o.row < r)
+    pub over-so : answer ≡ true → (r < length frame.table.now.heights) × (o.row < r)
     over-so holds =
         let begun = and_parts _ _ (sym told ∙ holds) in
         let within = and_parts _ _ begun.1 in
         (subst (λ n. r < n) rows-read (ltb-true r frame.shape.0 within.0), ltb-true o.row r within.1)
 
-    pub over-not : answer ≡ false → r < length parts.heights → r ≤ o.row
+    pub over-not : answer ≡ false → r < length frame.table.now.heights → r ≤ o.row
     over-not fails below = elim (cases_lt o.row r) [
       | inl above ↦ absurd (false≢true (sym fails ∙ told ∙ and_from _ _ (lt-ltb 0 r (omega (arith, above)))
           (and_from _ _ (lt-ltb r frame.shape.0 (subst (λ n. r < n) (sym rows-read) below)) (lt-ltb o.row r above))))
       | inr from ↦ from
     ]
 
-    module _ (texts : Texts) (tiled : IsTiled (layout_of (drawing_of parts texts))) (c : ℕ) (inside : c < length parts.widths)
-        (owner : r < length parts.heights → owner_at (drawing_of parts texts) r c ≡ Some o) where
-      asked : (nat_lt 0 r && (nat_lt r (length parts.heights) && nat_lt o.row r)) ≡ answer
+    module _ (texts : Texts) (c : ℕ) (inside : c < length frame.table.now.widths)
+        (owner : r < length frame.table.now.heights → owner_at (drawing_of frame.table.now texts) r c ≡ Some o) where
+      asked : (nat_lt 0 r && (nat_lt r (length frame.table.now.heights) && nat_lt o.row r)) ≡ answer
       asked = sym (told ∙ ap (λ n. nat_lt 0 r && (nat_lt r n && nat_lt o.row r)) rows-read)
 
       -- tells whether its cell stands over the line
-      pub over-asked : stands_over (drawing_of parts texts) r c ≡ answer
-      over-asked = over-test (drawing_of parts texts) tiled r c o inside owner ∙ asked
+      pub over-asked : stands_over (drawing_of frame.table.now texts) r c ≡ answer
+      over-asked = over-test (drawing_of frame.table.now texts) frame.tiled r c o inside owner ∙ asked
 
       -- and, with its column, over the crossing
-      pub crossing-asked : stands_over_crossing (drawing_of parts texts) r c ≡ (answer && nat_lt o.col c)
-      crossing-asked = crossing-test (drawing_of parts texts) tiled r c o inside owner ∙ ap (λ over. over && nat_lt o.col c) asked
+      pub crossing-asked : stands_over_crossing (drawing_of frame.table.now texts) r c ≡ (answer && nat_lt o.col c)
+      crossing-asked = crossing-test (drawing_of frame.table.now texts) frame.tiled r c o inside owner ∙ ap (λ over. over && nat_lt o.col c) asked
 
 -- ---- a horizontal line, column by column
 

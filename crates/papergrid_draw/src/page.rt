@@ -1,6 +1,6 @@
 //! A table while it is drawn: what stands in each column of a row.
 
-ghost use Rattle.std.specs.Prelude.{◌≡◌, ◌↔◌, ◌<◌, ◌≤◌, ◌+◌, ◌-◌, ◌++◌, IsTrue, Some, IfOk, OnOk, ◌&&◌, length, nat_lt, option_copied, option_map, slice_index, string_bytes, true, unwrap_or};
+ghost use Rattle.std.specs.Prelude.{◌≡◌, ◌↔◌, ◌<◌, ◌≤◌, ◌+◌, ◌-◌, ◌++◌, IsTrue, None, Some, IfOk, OnOk, if◌then◌else◌, ◌&&◌, length, nat_lt, option_copied, option_map, slice_index, string_bytes, true, unwrap_or};
 ghost use Rattle.papergrid_values.specs.Colors.{texts_of};
 ghost use Rattle.papergrid_values.specs.declared.direction.Direction.TheVariants.{Columns, Rows};
 ghost use Rattle.papergrid_values.specs.Positions.{position_of};
@@ -8,13 +8,14 @@ ghost use Rattle.papergrid_tables.specs.BorderParts.{found_vertical};
 ghost use Rattle.papergrid_tables.specs.StoredBorders.{parts_of_borders};
 ghost use Rattle.papergrid_config.specs.Grids.{spanned_grid};
 ghost use Rattle.papergrid_layout.specs.Places.{IsInsideTable};
-ghost use Rattle.papergrid_layout.specs.Tables.{TableParts};
+ghost use Rattle.papergrid_layout.specs.Tables.{view_of};
 ghost use Rattle.papergrid_draw.specs.Bytes.{pieces_bytes, rule_bytes};
 ghost use Rattle.papergrid_draw.specs.Contents.{block_at, lines_of};
 ghost use Rattle.papergrid_draw.specs.Drawings.{layout_of};
 ghost use Rattle.papergrid_draw.specs.Drawn.{column_pieces, column_stretch, crossing_stretch, draws_horizontal, owner_at, rule_line, text_line, vertical_pieces};
 ghost use Rattle.papergrid_draw.specs.Tiles.{IsTiled};
-ghost use Rattle.papergrid_draw.specs.ForProofs.Pages.{AreSlotsSet, AreSlots, AreVerticals, HaveCharacters, IsFrame, IsSlot, Texts, drawing_of, row_start, text_start};
+ghost use Rattle.papergrid_draw.specs.ForProofs.Tiles.{IsTiled-prop};
+ghost use Rattle.papergrid_draw.specs.ForProofs.Pages.{AreSlotsSet, AreSlots, AreVerticals, HaveCharacters, IsFrame, IsSlot, Texts, character_bytes, drawing_of, row_start, text_start};
 ghost use Rattle.papergrid_draw.specs.ForProofs.Pens.{AddsStretches, stretches_over};
 
 use crate::block::Block;
@@ -36,7 +37,7 @@ pub struct Slot<'a, T: Cell> {
     pub drawn: usize,
 }
 
-/// A table with what is read of it once.
+/// A tiled table with what is read of it once.
 pub struct Frame<'a> {
     pub table: &'a Table<'a>,
     pub config: &'a SpannedConfig,
@@ -44,7 +45,10 @@ pub struct Frame<'a> {
     pub height: usize,
     pub looks: Looks<'a>,
     pub verticals: Vec<bool>,
-    characters: Vec<char>,
+    characters: Vec<Option<char>>,
+    ghost tiled: { IsTiled (view_of table.now) } by { IsTiled-prop (view_of table.now) },
+    ghost read: { IsFrame table.now config.now shape height looks verticals.items
+        characters.items },
 }
 
 // By hand: docs/DECISIONS.md, "Drops".
@@ -73,19 +77,33 @@ fn vertical_lines(alloc: Global, table: &Table<'_>) -> Result<Vec<bool>, AllocEr
     Ok(lines)
 }
 
-/// The character that a vertical line before a column has in the first row, of so many columns.
-fn vertical_character(config: &SpannedConfig, col: usize, columns: usize) -> char
-    ensures { result ≡ unwrap_or
+/// The character that the vertical line before a column has in the first row, of so many columns; none where no line is
+/// drawn.
+fn vertical_character(
+    config: &SpannedConfig,
+    col: usize,
+    columns: usize,
+    is_drawn: bool,
+) -> Option<char>
+    ensures { result ≡ (if is_drawn then Some (unwrap_or
         (found_vertical (parts_of_borders config.now.characters) (position_of (0, col)) columns)
-        config.now.missing }
+        config.now.missing) else None) }
 {
+    if !is_drawn {
+        return None;
+    }
     let character = config.get_vertical(Position { row: 0, col }, columns);
-    character.unwrap_or(config.get_borders_missing())
+    Some(character.unwrap_or(config.get_borders_missing()))
 }
 
-/// The character of the vertical line before each column, and after the last; none where lines have a part, a colour or a
-/// character of a single cell.
-fn vertical_characters(alloc: Global, table: &Table<'_>) -> Result<Vec<char>, AllocError>
+/// The character of each vertical line that is drawn, and none in the place of the others. The list is empty where lines
+/// have a part, a colour or a character of a single cell.
+fn vertical_characters(
+    alloc: Global,
+    table: &Table<'_>,
+    lines: &[bool],
+) -> Result<Vec<Option<char>>, AllocError>
+    requires { AreVerticals table.now lines.now }
     ensures { IfOk result (λ characters. HaveCharacters table.now characters.items) }
 {
     let (config, columns) = (table.config(), table.shape().1);
@@ -93,20 +111,32 @@ fn vertical_characters(alloc: Global, table: &Table<'_>) -> Result<Vec<char>, Al
     if !config.has_common_lines() {
         return Ok(characters);
     }
-    for col in 0..columns {
-        characters.push(vertical_character(config, col, columns))?;
+    for col in 0..lines.len() {
+        characters.push(vertical_character(config, col, columns, lines[col]))?;
     }
-    characters.push(vertical_character(config, columns, columns))?;
     Ok(characters)
 }
 
+/// Adds the character of a vertical line, if there is one.
+#[inline(always)]
+fn push_character(line: &mut String, character: Option<char>) -> Result<(), AllocError>
+    ensures { OnOk result (string_bytes line.new
+        ≡ string_bytes line.old ++ character_bytes character) }
+{
+    match character {
+        Some(character) => line.push(character),
+        None => Ok(()),
+    }
+}
+
 impl<'a> Frame<'a> {
-    /// That of a table, or out of memory.
+    /// That of a tiled table, or out of memory.
     pub fn new(alloc: Global, table: &'a Table<'a>) -> Result<Frame<'a>, AllocError>
-        ensures { IfOk result (IsFrame table.now) }
+        requires { IsTiled (view_of table.now) }
+        ensures { IfOk result (λ frame. frame.table.now ≡ table.now) }
     {
         let verticals = vertical_lines(alloc, table)?;
-        let characters = vertical_characters(alloc, table)?;
+        let characters = vertical_characters(alloc, table, &verticals)?;
         let config = table.config();
         Ok(Frame {
             table,
@@ -121,14 +151,11 @@ impl<'a> Frame<'a> {
 
     /// The owner of a position, by the cells that cover the columns of the row above, and of its own row before it.
     fn owner<T: Cell>(&self, slots: &[Slot<'a, T>], position: Position) -> Position
-        requires { (parts : TableParts) × (texts : Texts) × IsFrame parts self.now
-            × AreSlotsSet (drawing_of parts texts) position.row position.col slots.now
-            × (position.col < length parts.widths) }
-        ensures { (parts : TableParts) (texts : Texts) → IsFrame parts self.now →
-            AreSlotsSet (drawing_of parts texts) position.row position.col slots.now →
-            IsTiled (layout_of (drawing_of parts texts)) → position.row < length parts.heights →
-            position.col < length parts.widths →
-            owner_at (drawing_of parts texts) position.row position.col ≡ Some result }
+        requires { position.col < length slots.now }
+        ensures { (texts : Texts) → let d = drawing_of self.now.table.now texts in
+            AreSlotsSet d position.row position.col slots.now →
+            position.row < d.shape.0 → position.col < d.shape.1 →
+            owner_at d position.row position.col ≡ Some result }
     {
         let above = slots[position.col].owner;
         if self.reaches_row(above, position.row) {
@@ -172,15 +199,13 @@ impl<'a> Frame<'a> {
         cell: Option<T>,
         color: Option<ANSIStr<'a>>,
     )
-        requires { (parts : TableParts) × (texts : Texts) × IsFrame parts self.now
-            × AreSlotsSet (drawing_of parts texts) position.row position.col slots.old
-            × (position.col < length parts.widths) }
-        ensures { (parts : TableParts) (texts : Texts) → IsFrame parts self.now →
-            AreSlotsSet (drawing_of parts texts) position.row position.col slots.old →
-            IsTiled (layout_of (drawing_of parts texts)) → position.row < length parts.heights →
-            position.col < length parts.widths → texts.lines position ≡ lines_of T.lines cell →
+        requires { position.col < length slots.old }
+        ensures { (texts : Texts) → let d = drawing_of self.now.table.now texts in
+            AreSlotsSet d position.row position.col slots.old →
+            position.row < d.shape.0 → position.col < d.shape.1 →
+            texts.lines position ≡ lines_of T.lines cell →
             texts.color position ≡ option_map texts_of color.entry →
-            AreSlotsSet (drawing_of parts texts) position.row (position.col + 1) slots.new }
+            AreSlotsSet d position.row (position.col + 1) slots.new }
     {
         let owner = self.owner(slots, position);
         if owner.row < position.row {
@@ -205,12 +230,11 @@ impl<'a> Frame<'a> {
         cell: Option<T>,
         color: Option<ANSIStr<'a>>,
     ) -> Option<Block<'a, T>>
-        requires { (parts : TableParts) × IsFrame parts self.now }
-        ensures { (parts : TableParts) (texts : Texts) → IsFrame parts self.now →
-            IsInsideTable (layout_of (drawing_of parts texts)) position →
+        ensures { (texts : Texts) → let d = drawing_of self.now.table.now texts in
+            IsInsideTable (layout_of d) position →
             texts.lines position ≡ lines_of T.lines cell →
             texts.color position ≡ option_map texts_of color.entry →
-            result ≡ Some (block_at (drawing_of parts texts) position) }
+            result ≡ Some (block_at d position) }
     {
         let place = self.table.rectangle(position)?;
         let look = self.looks.get(self.config, position);
@@ -226,19 +250,13 @@ impl<'a> Frame<'a> {
         k: usize,
         line: &mut String,
     ) -> Result<(), AllocError>
-        requires { (parts : TableParts) × (texts : Texts) × IsFrame parts self.now
-            × (position.col < length parts.widths) × (position.row < length parts.heights)
-            × (k < slice_index parts.heights position.row)
-            × IsSlot (drawing_of parts texts) position.row position.col
-            (text_start (drawing_of parts texts) position.row + k) slot.old }
-        ensures { OnOk result ((parts : TableParts) (texts : Texts) → IsFrame parts self.now →
-            height ≡ slice_index parts.heights position.row →
-            IsSlot (drawing_of parts texts) position.row position.col
-            (text_start (drawing_of parts texts) position.row + k) slot.old →
+        requires { (position.col < self.now.shape.1) × (slot.old.drawn < self.now.height) }
+        ensures { OnOk result ((texts : Texts) → let d = drawing_of self.now.table.now texts in
+            height ≡ d.heights position.row →
+            IsSlot d position.row position.col (text_start d position.row + k) slot.old →
             (string_bytes line.new ≡ string_bytes line.old
-            ++ pieces_bytes (column_pieces (drawing_of parts texts) position.row k position.col))
-            × IsSlot (drawing_of parts texts) position.row position.col
-            (text_start (drawing_of parts texts) position.row + (k + 1)) slot.new) }
+            ++ pieces_bytes (column_pieces d position.row k position.col))
+            × IsSlot d position.row position.col (text_start d position.row + (k + 1)) slot.new) }
     {
         let drawn = slot.drawn;
         slot.drawn += 1;
@@ -258,20 +276,18 @@ impl<'a> Frame<'a> {
         k: usize,
         line: &mut String,
     ) -> Result<(), AllocError>
-        requires { (parts : TableParts) × IsFrame parts self.now
-            × (position.col ≤ length parts.widths) }
-        ensures { OnOk result ((parts : TableParts) (texts : Texts) → IsFrame parts self.now →
-            height ≡ slice_index parts.heights position.row →
-            string_bytes line.new ≡ string_bytes line.old ++ pieces_bytes
-            (vertical_pieces (drawing_of parts texts) position.row position.col k)) }
+        requires { position.col ≤ self.now.shape.1 }
+        ensures { OnOk result ((texts : Texts) → let d = drawing_of self.now.table.now texts in
+            height ≡ d.heights position.row → string_bytes line.new ≡ string_bytes line.old
+            ++ pieces_bytes (vertical_pieces d position.row position.col k)) }
     {
+        if let Some(common) = self.characters.get(position.col) {
+            return push_character(line, *common);
+        }
         if !self.verticals[position.col] {
             return Ok(());
         }
-        match self.characters.get(position.col) {
-            Some(character) => line.push(*character),
-            None => push_vertical(line, self.config, position, self.shape, height, k),
-        }
+        push_vertical(line, self.config, position, self.shape, height, k)
     }
 
     /// Adds line k of a row.
@@ -282,17 +298,13 @@ impl<'a> Frame<'a> {
         k: usize,
         line: &mut String,
     ) -> Result<(), AllocError>
-        requires { (parts : TableParts) × (texts : Texts) × IsFrame parts self.now
-            × (row < length parts.heights) × (k < slice_index parts.heights row)
-            × AreSlots (drawing_of parts texts) row
-            (λ _. text_start (drawing_of parts texts) row + k) slots.old }
-        ensures { OnOk result ((parts : TableParts) (texts : Texts) → IsFrame parts self.now →
-            AreSlots (drawing_of parts texts) row
-            (λ _. text_start (drawing_of parts texts) row + k) slots.old →
-            (string_bytes line.new ≡ string_bytes line.old
-            ++ pieces_bytes (text_line (drawing_of parts texts) row k))
-            × AreSlots (drawing_of parts texts) row
-            (λ _. text_start (drawing_of parts texts) row + (k + 1)) slots.new) }
+        requires { (texts : Texts) × let d = drawing_of self.now.table.now texts in
+            (row < d.shape.0) × (k < d.heights row)
+            × AreSlots d row (λ _. text_start d row + k) slots.old }
+        ensures { OnOk result ((texts : Texts) → let d = drawing_of self.now.table.now texts in
+            AreSlots d row (λ _. text_start d row + k) slots.old →
+            (string_bytes line.new ≡ string_bytes line.old ++ pieces_bytes (text_line d row k))
+            × AreSlots d row (λ _. text_start d row + (k + 1)) slots.new) }
     {
         let height = self.table.get_height(row);
         for col in 0..self.shape.1 {
@@ -318,15 +330,13 @@ impl<'a> Frame<'a> {
         position: Position,
         line: &mut String,
     ) -> Result<(), AllocError>
-        requires { (parts : TableParts) × IsFrame parts self.now
-            × (position.col < length parts.widths) }
-        ensures { OnOk result ((parts : TableParts) (texts : Texts) → IsFrame parts self.now →
-            IsTiled (layout_of (drawing_of parts texts)) → position.col < length parts.widths →
-            (position.row < length parts.heights →
-            owner_at (drawing_of parts texts) position.row position.col ≡ Some owner) →
+        requires { position.col < self.now.shape.1 }
+        ensures { OnOk result ((texts : Texts) → let d = drawing_of self.now.table.now texts in
+            (position.row < d.shape.0 →
+            owner_at d position.row position.col ≡ Some owner) →
             AddsStretches (option_copied rule.old.used) (option_copied rule.new.used)
             (string_bytes line.old) (string_bytes line.new)
-            (crossing_stretch (drawing_of parts texts) position.row position.col)) }
+            (crossing_stretch d position.row position.col)) }
     {
         let hidden = self.is_over(owner, position.row) && owner.col < position.col;
         if !self.verticals[position.col] || hidden {
@@ -366,27 +376,20 @@ impl<'a> Frame<'a> {
         position: Position,
         line: &mut String,
     ) -> Result<(), AllocError>
-        requires { (parts : TableParts) × (texts : Texts) × IsFrame parts self.now
-            × (position.col < length parts.widths)
-            × (draws_horizontal (drawing_of parts texts) position.row ≡ true)
-            × (position.row < length parts.heights →
-            IsSlot (drawing_of parts texts) position.row position.col
-            (row_start (drawing_of parts texts) position.row) slot.old) }
-        ensures adds { OnOk result ((parts : TableParts) (texts : Texts) → IsFrame parts self.now →
-            IsTiled (layout_of (drawing_of parts texts)) → position.col < length parts.widths →
-            (position.row < length parts.heights →
-            IsSlot (drawing_of parts texts) position.row position.col
-            (row_start (drawing_of parts texts) position.row) slot.old) →
+        requires { (texts : Texts) × let d = drawing_of self.now.table.now texts in
+            (position.col < d.shape.1) × (draws_horizontal d position.row ≡ true)
+            × (position.row < d.shape.0 →
+            IsSlot d position.row position.col (row_start d position.row) slot.old) }
+        ensures adds { OnOk result ((texts : Texts) → let d = drawing_of self.now.table.now texts in
+            (position.row < d.shape.0 →
+            IsSlot d position.row position.col (row_start d position.row) slot.old) →
             AddsStretches (option_copied rule.old.used) (option_copied rule.new.used)
             (string_bytes line.old) (string_bytes line.new)
-            (column_stretch (drawing_of parts texts) position.row position.col)) }
-        ensures kept { OnOk result ((parts : TableParts) (texts : Texts) → IsFrame parts self.now →
-            position.row < length parts.heights →
-            draws_horizontal (drawing_of parts texts) position.row ≡ true →
-            IsSlot (drawing_of parts texts) position.row position.col
-            (row_start (drawing_of parts texts) position.row) slot.old →
-            IsSlot (drawing_of parts texts) position.row position.col
-            (text_start (drawing_of parts texts) position.row) slot.new) }
+            (column_stretch d position.row position.col)) }
+        ensures kept { OnOk result ((texts : Texts) → let d = drawing_of self.now.table.now texts in
+            position.row < d.shape.0 → draws_horizontal d position.row ≡ true →
+            IsSlot d position.row position.col (row_start d position.row) slot.old →
+            IsSlot d position.row position.col (text_start d position.row) slot.new) }
     {
         if self.is_over(slot.owner, position.row) {
             return self.push_cell_over(rule, slot, line);
@@ -403,28 +406,21 @@ impl<'a> Frame<'a> {
         position: Position,
         line: &mut String,
     ) -> Result<(), AllocError>
-        requires { (parts : TableParts) × (texts : Texts) × IsFrame parts self.now
-            × (position.col < length parts.widths)
-            × (draws_horizontal (drawing_of parts texts) position.row ≡ true)
-            × (position.row < length parts.heights →
-            IsSlot (drawing_of parts texts) position.row position.col
-            (row_start (drawing_of parts texts) position.row) slot.old) }
-        ensures adds { OnOk result ((parts : TableParts) (texts : Texts) → IsFrame parts self.now →
-            IsTiled (layout_of (drawing_of parts texts)) → position.col < length parts.widths →
-            (position.row < length parts.heights →
-            IsSlot (drawing_of parts texts) position.row position.col
-            (row_start (drawing_of parts texts) position.row) slot.old) →
+        requires { (texts : Texts) × let d = drawing_of self.now.table.now texts in
+            (position.col < d.shape.1) × (draws_horizontal d position.row ≡ true)
+            × (position.row < d.shape.0 →
+            IsSlot d position.row position.col (row_start d position.row) slot.old) }
+        ensures adds { OnOk result ((texts : Texts) → let d = drawing_of self.now.table.now texts in
+            (position.row < d.shape.0 →
+            IsSlot d position.row position.col (row_start d position.row) slot.old) →
             AddsStretches (option_copied rule.old.used) (option_copied rule.new.used)
             (string_bytes line.old) (string_bytes line.new)
-            (crossing_stretch (drawing_of parts texts) position.row position.col
-            ++ column_stretch (drawing_of parts texts) position.row position.col)) }
-        ensures kept { OnOk result ((parts : TableParts) (texts : Texts) → IsFrame parts self.now →
-            position.row < length parts.heights →
-            draws_horizontal (drawing_of parts texts) position.row ≡ true →
-            IsSlot (drawing_of parts texts) position.row position.col
-            (row_start (drawing_of parts texts) position.row) slot.old →
-            IsSlot (drawing_of parts texts) position.row position.col
-            (text_start (drawing_of parts texts) position.row) slot.new) }
+            (crossing_stretch d position.row position.col
+            ++ column_stretch d position.row position.col)) }
+        ensures kept { OnOk result ((texts : Texts) → let d = drawing_of self.now.table.now texts in
+            position.row < d.shape.0 → draws_horizontal d position.row ≡ true →
+            IsSlot d position.row position.col (row_start d position.row) slot.old →
+            IsSlot d position.row position.col (text_start d position.row) slot.new) }
     {
         self.push_crossing(rule, slot.owner, position, line)?;
         self.push_stretch(rule, slot, position, line)
@@ -437,23 +433,17 @@ impl<'a> Frame<'a> {
         row: usize,
         line: &mut String,
     ) -> Result<(), AllocError>
-        requires { (parts : TableParts) × (texts : Texts) × IsFrame parts self.now
-            × (length slots.old ≡ length parts.widths)
-            × (draws_horizontal (drawing_of parts texts) row ≡ true)
-            × (row < length parts.heights → AreSlots (drawing_of parts texts) row
-            (λ _. row_start (drawing_of parts texts) row) slots.old) }
-        ensures bytes { OnOk result ((parts : TableParts) (texts : Texts) → IsFrame parts self.now →
-            IsTiled (layout_of (drawing_of parts texts)) → row ≤ length parts.heights →
-            (row < length parts.heights → AreSlots (drawing_of parts texts) row
-            (λ _. row_start (drawing_of parts texts) row) slots.old) →
-            string_bytes line.new ≡ string_bytes line.old
-            ++ rule_bytes (rule_line (drawing_of parts texts) row)) }
-        ensures kept { OnOk result ((parts : TableParts) (texts : Texts) → IsFrame parts self.now →
-            row < length parts.heights → draws_horizontal (drawing_of parts texts) row ≡ true →
-            AreSlots (drawing_of parts texts) row
-            (λ _. row_start (drawing_of parts texts) row) slots.old →
-            AreSlots (drawing_of parts texts) row
-            (λ _. text_start (drawing_of parts texts) row) slots.new) }
+        requires { (texts : Texts) × let d = drawing_of self.now.table.now texts in
+            (length slots.old ≡ d.shape.1) × (draws_horizontal d row ≡ true)
+            × (row < d.shape.0 → AreSlots d row (λ _. row_start d row) slots.old) }
+        ensures bytes { OnOk result ((texts : Texts) →
+            let d = drawing_of self.now.table.now texts in row ≤ d.shape.0 →
+            (row < d.shape.0 → AreSlots d row (λ _. row_start d row) slots.old) →
+            string_bytes line.new ≡ string_bytes line.old ++ rule_bytes (rule_line d row)) }
+        ensures kept { OnOk result ((texts : Texts) → let d = drawing_of self.now.table.now texts in
+            row < d.shape.0 → draws_horizontal d row ≡ true →
+            AreSlots d row (λ _. row_start d row) slots.old →
+            AreSlots d row (λ _. text_start d row) slots.new) }
     {
         let mut rule = Rule::new();
         for col in 0..self.shape.1 {

@@ -6,7 +6,7 @@ ghost use Rattle.papergrid_draw.specs.Bytes.{pieces_bytes, rule_bytes};
 ghost use Rattle.papergrid_draw.specs.Contents.{block_at, content};
 ghost use Rattle.papergrid_draw.specs.Drawings.{drawn_of};
 ghost use Rattle.papergrid_draw.specs.Drawn.{crossing_stretch, rule_line, text_line};
-ghost use Rattle.papergrid_draw.specs.ForProofs.Pages.{AreSlots, IsFrame, Texts, drawing_of, text_start};
+ghost use Rattle.papergrid_draw.specs.ForProofs.Pages.{AreSlots, Texts, drawing_of, text_start};
 ghost use Rattle.papergrid_draw.specs.ForProofs.Pens.{AddsStretches};
 ghost use Rattle.papergrid_draw.specs.ForProofs.Plain.{HasCommonRule, IsCommonRule, IsPlain};
 
@@ -38,7 +38,6 @@ pub fn push_plain_text_line<'a, S: Cells>(
 ) -> Result<(), AllocError>
 where
     S::Cell: Drop,
-    requires frame { IsFrame frame.now.table.now frame.now }
     requires plain { IsPlain frame.now.table.now.config }
     requires row_in { row < length frame.now.table.now.heights }
     requires low { slice_index frame.now.table.now.heights row ≡ 1 }
@@ -64,7 +63,6 @@ pub fn push_plain_rule_line(
     row: usize,
     line: &mut String,
 ) -> Result<(), AllocError>
-    requires frame { IsFrame frame.now.table.now frame.now }
     requires plain { IsPlain frame.now.table.now.config }
     requires common { HasCommonRule frame.now.table.now common.old }
     requires row_in { row ≤ length frame.now.table.now.heights }
@@ -88,7 +86,6 @@ pub fn push_plain_rule_line(
 
 /// Whether a row has a line before it that stands between two rows, and has none of its own set.
 fn is_common_rule(frame: &Frame<'_>, row: usize) -> bool
-    requires { IsFrame frame.now.table.now frame.now }
     ensures { (texts : Texts) →
         IsTrue result ↔ IsCommonRule (drawing_of frame.now.table.now texts) row }
 {
@@ -97,7 +94,6 @@ fn is_common_rule(frame: &Frame<'_>, row: usize) -> bool
 
 /// Adds the horizontal line before a row, or after the last, as it is set.
 fn push_own_rule(frame: &Frame<'_>, row: usize, line: &mut String) -> Result<(), AllocError>
-    requires frame { IsFrame frame.now.table.now frame.now }
     requires plain { IsPlain frame.now.table.now.config }
     requires row_in { row ≤ length frame.now.table.now.heights }
     ensures { OnOk result ((texts : Texts) →
@@ -123,7 +119,6 @@ fn push_plain_crossing<'a>(
     position: Position,
     line: &mut String,
 ) -> Result<(), AllocError>
-    requires frame { IsFrame frame.now.table.now frame.now }
     requires plain { IsPlain frame.now.table.now.config }
     requires col_in { position.col ≤ length frame.now.table.now.widths }
     ensures { OnOk result ((texts : Texts) →
@@ -146,7 +141,6 @@ fn push_cell<'a, S: Cells>(
 ) -> Result<(), AllocError>
 where
     S::Cell: Drop,
-    requires frame { IsFrame frame.now.table.now frame.now }
     requires plain { IsPlain frame.now.table.now.config }
     requires row_in { position.row < length frame.now.table.now.heights }
     requires col_in { position.col < length frame.now.table.now.widths }
@@ -176,7 +170,6 @@ pub fn plain_slots<'a, S: Cells>(
 ) -> Result<Vec<Slot<'a, S::Cell>>, AllocError>
 where
     S::Cell: Drop,
-    requires frame { IsFrame frame.now.table.now frame.now }
     requires plain { IsPlain frame.now.table.now.config }
     requires row_in { row < length frame.now.table.now.heights }
     ensures { let d = drawn_of S.lines S.color frame.now.table.now cells.now in

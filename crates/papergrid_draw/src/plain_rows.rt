@@ -3,7 +3,7 @@
 ghost use Rattle.std.specs.Prelude.{◌≡◌, ◌+◌, ◌<◌, ◌≤◌, ◌∷◌, [], OnOk, length, slice_index};
 ghost use Rattle.papergrid_draw.specs.Drawings.{drawn_of};
 ghost use Rattle.papergrid_draw.specs.Drawn.{TextLine, drawn_lines, row_lines, rule_lines, text_line};
-ghost use Rattle.papergrid_draw.specs.ForProofs.Pages.{IsFrame, Texts, drawing_of, row_start, text_start};
+ghost use Rattle.papergrid_draw.specs.ForProofs.Pages.{Texts, drawing_of, row_start, text_start};
 ghost use Rattle.papergrid_draw.specs.ForProofs.Plain.{HasCommonRule, IsPlain};
 ghost use Rattle.papergrid_draw.specs.ForProofs.Sheets.{WritesLines, margined, first_text_lines};
 
@@ -27,7 +27,6 @@ pub fn draw_plain_rows<'a, S: Cells, D: Delivery<W>, W>(
 ) -> Result<(), DrawError>
 where
     S::Cell: Drop,
-    requires frame { IsFrame frame.now.table.now frame.now }
     requires plain { IsPlain frame.now.table.now.config }
     requires start { sheet.old.written ≡ 0 }
     ensures { let d = drawn_of S.lines S.color frame.now.table.now cells.now in
@@ -53,7 +52,6 @@ fn draw_plain_row<'a, S: Cells, D: Delivery<W>, W>(
 ) -> Result<(), DrawError>
 where
     S::Cell: Drop,
-    requires frame { IsFrame frame.now.table.now frame.now }
     requires plain { IsPlain frame.now.table.now.config }
     requires common { HasCommonRule frame.now.table.now common.old }
     requires row_in { row < length frame.now.table.now.heights }
@@ -82,7 +80,6 @@ fn draw_plain_rule<D: Delivery<W>, W>(
     sheet: &mut Sheet,
     writer: &mut W,
 ) -> Result<(), DrawError>
-    requires frame { IsFrame frame.now.table.now frame.now }
     requires plain { IsPlain frame.now.table.now.config }
     requires common { HasCommonRule frame.now.table.now common.old }
     requires row_in { row ≤ length frame.now.table.now.heights }
@@ -113,7 +110,6 @@ fn draw_low_row<'a, S: Cells, D: Delivery<W>, W>(
 ) -> Result<(), DrawError>
 where
     S::Cell: Drop,
-    requires frame { IsFrame frame.now.table.now frame.now }
     requires plain { IsPlain frame.now.table.now.config }
     requires row_in { row < length frame.now.table.now.heights }
     requires low { slice_index frame.now.table.now.heights row ≡ 1 }
@@ -141,7 +137,6 @@ fn draw_high_row<'a, S: Cells, D: Delivery<W>, W>(
 ) -> Result<(), DrawError>
 where
     S::Cell: Drop,
-    requires frame { IsFrame frame.now.table.now frame.now }
     requires plain { IsPlain frame.now.table.now.config }
     requires row_in { row < length frame.now.table.now.heights }
     requires start { let d = drawn_of S.lines S.color frame.now.table.now cells.now in

@@ -4,7 +4,6 @@ ghost use Rattle.std.specs.Prelude.{◌≡◌, ◌-◌, ◌^◌, ◌<◌, ◌≢
 ghost use Rattle.std.specs.Fmt.{WritesInCalls};
 ghost use Rattle.std.specs.List.{join_with_byte};
 ghost use Rattle.std.specs.Option.{SomeIff};
-ghost use Rattle.papergrid_layout.specs.Tables.{view_of};
 ghost use Rattle.papergrid_draw.specs.Deliveries.{IsLeftOff};
 ghost use Rattle.papergrid_draw.specs.Drawings.{drawn_of};
 ghost use Rattle.papergrid_draw.specs.Drawn.{drawn_lines};
@@ -12,8 +11,7 @@ ghost use Rattle.papergrid_draw.specs.Faults.{AllHaveRoom, IsDrawFault, whole_he
 ghost use Rattle.papergrid_draw.specs.Margins.{printed, printed_lines, whole_width};
 ghost use Rattle.papergrid_text.specs.Transfer.{IsTaken};
 ghost use Rattle.papergrid_draw.specs.Sinks.{IsCutOff};
-ghost use Rattle.papergrid_draw.specs.Tiles.{IsTiled};
-ghost use Rattle.papergrid_draw.specs.ForProofs.Pages.{IsFrame, Texts, drawing_of};
+ghost use Rattle.papergrid_draw.specs.ForProofs.Pages.{Texts, drawing_of};
 ghost use Rattle.papergrid_draw.specs.ForProofs.Sheets.{Draws, Writes, WritesLines, margined};
 ghost use Rattle.papergrid_draw.specs.declared.error.DrawError.TheVariants.{Memory, Write};
 
@@ -164,9 +162,7 @@ fn draw_tiled<'a, S: Cells, D: Delivery<W>, W>(
 ) -> Result<(), DrawError>
 where
     S::Cell: Drop,
-    requires frame { IsFrame frame.now.table.now frame.now }
-    requires tiled { IsTiled (view_of frame.now.table.now) }
-    requires known { room ≡ Room.Known →
+    requires { room ≡ Room.Known →
         AllHaveRoom (drawn_of S.lines S.color frame.now.table.now cells.now) }
     ensures { let d = drawn_of S.lines S.color frame.now.table.now cells.now in
         Draws D.takes D.breaks d writer.old writer.new
@@ -187,9 +183,7 @@ fn draw_all<'a, S: Cells, D: Delivery<W>, W>(
 ) -> Result<(), DrawError>
 where
     S::Cell: Drop,
-    requires frame { IsFrame frame.now.table.now frame.now }
-    requires tiled { IsTiled (view_of frame.now.table.now) }
-    requires width { width ≡ whole_width (drawn_of S.lines S.color frame.now.table.now cells.now) }
+    requires { width ≡ whole_width (drawn_of S.lines S.color frame.now.table.now cells.now) }
     ensures { Writes D.takes D.breaks writer.old writer.new
         (join_with_byte 10 (printed_lines (drawn_of S.lines S.color frame.now.table.now cells.now)))
         result }
@@ -228,9 +222,7 @@ fn draw_rows<'a, S: Cells, D: Delivery<W>, W>(
 ) -> Result<(), DrawError>
 where
     S::Cell: Drop,
-    requires frame { IsFrame frame.now.table.now frame.now }
-    requires tiled { IsTiled (view_of frame.now.table.now) }
-    requires start { sheet.old.written ≡ 0 }
+    requires { sheet.old.written ≡ 0 }
     ensures { let d = drawn_of S.lines S.color frame.now.table.now cells.now in
         WritesLines D.takes D.breaks writer.old writer.new
         sheet.old.begun sheet.new.begun (margined d 0 (drawn_lines d)) result }

@@ -3,11 +3,8 @@
 ghost use Rattle.std.specs.Prelude.{◌≡◌, ◌+◌, ◌-◌, ◌^◌, ◌<◌, IfErr, OnOk, length};
 ghost use Rattle.papergrid_config.specs.Grids.{spanned_grid};
 ghost use Rattle.papergrid_walk.specs.ForProofs.Shown.{Shows};
-ghost use Rattle.papergrid_layout.specs.Tables.{view_of};
 ghost use Rattle.papergrid_draw.specs.Drawings.{drawn_of};
 ghost use Rattle.papergrid_draw.specs.Faults.{AllHaveRoom};
-ghost use Rattle.papergrid_draw.specs.Tiles.{IsTiled};
-ghost use Rattle.papergrid_draw.specs.ForProofs.Pages.{IsFrame};
 ghost use Rattle.papergrid_draw.specs.ForProofs.Sheets.{HaveRoomBefore, IsRoomFault};
 
 use crate::error::DrawError;
@@ -40,9 +37,7 @@ pub fn find_room<'a, S: Cells>(
 ) -> Result<(), DrawError>
 where
     S::Cell: Drop,
-    requires frame { IsFrame frame.now.table.now frame.now }
-    requires tiled { IsTiled (view_of frame.now.table.now) }
-    requires known { room ≡ Room.Known →
+    requires { room ≡ Room.Known →
         AllHaveRoom (drawn_of S.lines S.color frame.now.table.now cells.now) }
     ensures ok { OnOk result
         (AllHaveRoom (drawn_of S.lines S.color frame.now.table.now cells.now)) }
@@ -59,8 +54,6 @@ where
 fn check_room<'a, S: Cells>(alloc: Global, frame: &Frame<'a>, cells: &'a S) -> Result<(), DrawError>
 where
     S::Cell: Drop,
-    requires frame { IsFrame frame.now.table.now frame.now }
-    requires tiled { IsTiled (view_of frame.now.table.now) }
     ensures ok { OnOk result
         (AllHaveRoom (drawn_of S.lines S.color frame.now.table.now cells.now)) }
     ensures err { IfErr result
@@ -83,8 +76,6 @@ fn check_row<'a, S: Cells>(
 ) -> Result<(), DrawError>
 where
     S::Cell: Drop,
-    requires frame { IsFrame frame.now.table.now frame.now }
-    requires tiled { IsTiled (view_of frame.now.table.now) }
     requires row_in { row < length frame.now.table.now.heights }
     requires row_fits { row < 2 ^ 64 - 1 }
     requires shows { Shows (spanned_grid frame.now.table.now.config) sweep.old row 0 }
@@ -113,8 +104,6 @@ fn check_cell<'a, S: Cells>(
 ) -> Result<(), DrawError>
 where
     S::Cell: Drop,
-    requires frame { IsFrame frame.now.table.now frame.now }
-    requires tiled { IsTiled (view_of frame.now.table.now) }
     requires row_in { position.row < length frame.now.table.now.heights }
     requires col_in { position.col < length frame.now.table.now.widths }
     requires row_fits { position.row < 2 ^ 64 - 1 }

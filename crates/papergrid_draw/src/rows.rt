@@ -1,11 +1,9 @@
 //! The lines of a table as they are written: margins, horizontal lines, and the text lines of a row.
 
 ghost use Rattle.std.specs.Prelude.{◌≡◌, ◌+◌, ◌-◌, ◌^◌, ◌<◌, ◌∷◌, ◌++◌, [], OnOk, length, option_copied, replicate, slice_index, string_bytes, true};
-ghost use Rattle.papergrid_layout.specs.Tables.{TableParts, view_of};
 ghost use Rattle.papergrid_draw.specs.Drawn.{TextLine, rule_lines, text_line};
 ghost use Rattle.papergrid_draw.specs.Margins.{margin_line};
-ghost use Rattle.papergrid_draw.specs.Tiles.{IsTiled};
-ghost use Rattle.papergrid_draw.specs.ForProofs.Pages.{IsFrame, Texts, drawing_of};
+ghost use Rattle.papergrid_draw.specs.ForProofs.Pages.{Texts, drawing_of};
 ghost use Rattle.papergrid_draw.specs.ForProofs.Sheets.{AtRule, AtText, Writes, WritesLines, left_margin_at, margined, right_margin_at, separator, first_text_lines};
 
 use crate::delivery::Delivery;
@@ -65,16 +63,14 @@ pub fn draw_rule<'a, T: Cell, D: Delivery<W>, W>(
     sheet: &mut Sheet,
     writer: &mut W,
 ) -> Result<(), DrawError>
-    requires { (parts : TableParts) × (texts : Texts)
-        × AtRule parts texts frame.now row sheet.old slots.old }
-    ensures lines { (parts : TableParts) (texts : Texts) →
-        AtRule parts texts frame.now row sheet.old slots.old → IsTiled (view_of parts) →
-        WritesLines D.takes D.breaks writer.old writer.new
-        sheet.old.begun sheet.new.begun (margined (drawing_of parts texts) sheet.old.written
-        (rule_lines (drawing_of parts texts) row)) result }
-    ensures kept { OnOk result ((parts : TableParts) (texts : Texts) →
-        AtRule parts texts frame.now row sheet.old slots.old → row < length parts.heights →
-        AtText parts texts frame.now row 0 sheet.new slots.new) }
+    requires { (texts : Texts)
+        × AtRule (drawing_of frame.now.table.now texts) row sheet.old slots.old }
+    ensures lines { (texts : Texts) → let d = drawing_of frame.now.table.now texts in
+        AtRule d row sheet.old slots.old →
+        WritesLines D.takes D.breaks writer.old writer.new sheet.old.begun sheet.new.begun
+        (margined d sheet.old.written (rule_lines d row)) result }
+    ensures kept { OnOk result ((texts : Texts) → let d = drawing_of frame.now.table.now texts in
+        AtRule d row sheet.old slots.old → row < d.shape.0 → AtText d row 0 sheet.new slots.new) }
 {
     if frame.table.horizontal_at(row).is_none() {
         return Ok(());
@@ -92,16 +88,14 @@ pub fn draw_text_lines<'a, T: Cell, D: Delivery<W>, W>(
     sheet: &mut Sheet,
     writer: &mut W,
 ) -> Result<(), DrawError>
-    requires { (parts : TableParts) × (texts : Texts)
-        × AtText parts texts frame.now row 0 sheet.old slots.old }
-    ensures lines { (parts : TableParts) (texts : Texts) →
-        AtText parts texts frame.now row 0 sheet.old slots.old →
-        WritesLines D.takes D.breaks writer.old writer.new
-        sheet.old.begun sheet.new.begun (margined (drawing_of parts texts) sheet.old.written
-        (first_text_lines (drawing_of parts texts) row (slice_index parts.heights row))) result }
-    ensures kept { OnOk result ((parts : TableParts) (texts : Texts) →
-        AtText parts texts frame.now row 0 sheet.old slots.old →
-        AtText parts texts frame.now row (slice_index parts.heights row) sheet.new slots.new) }
+    requires { (texts : Texts)
+        × AtText (drawing_of frame.now.table.now texts) row 0 sheet.old slots.old }
+    ensures lines { (texts : Texts) → let d = drawing_of frame.now.table.now texts in
+        AtText d row 0 sheet.old slots.old →
+        WritesLines D.takes D.breaks writer.old writer.new sheet.old.begun sheet.new.begun
+        (margined d sheet.old.written (first_text_lines d row (d.heights row))) result }
+    ensures kept { OnOk result ((texts : Texts) → let d = drawing_of frame.now.table.now texts in
+        AtText d row 0 sheet.old slots.old → AtText d row (d.heights row) sheet.new slots.new) }
 {
     for k in 0..frame.table.get_height(row) {
         draw_text_line::<T, D, W>(frame, slots, row, k, sheet, writer)?;
@@ -118,16 +112,14 @@ fn draw_text_line<'a, T: Cell, D: Delivery<W>, W>(
     sheet: &mut Sheet,
     writer: &mut W,
 ) -> Result<(), DrawError>
-    requires { (parts : TableParts) × (texts : Texts) × (k < slice_index parts.heights row)
-        × AtText parts texts frame.now row k sheet.old slots.old }
-    ensures lines { (parts : TableParts) (texts : Texts) →
-        AtText parts texts frame.now row k sheet.old slots.old →
-        WritesLines D.takes D.breaks writer.old writer.new
-        sheet.old.begun sheet.new.begun (margined (drawing_of parts texts) sheet.old.written
-        (TextLine (text_line (drawing_of parts texts) row k) ∷ [])) result }
-    ensures kept { OnOk result ((parts : TableParts) (texts : Texts) →
-        AtText parts texts frame.now row k sheet.old slots.old →
-        AtText parts texts frame.now row (k + 1) sheet.new slots.new) }
+    requires { (texts : Texts) × (k < slice_index frame.now.table.now.heights row)
+        × AtText (drawing_of frame.now.table.now texts) row k sheet.old slots.old }
+    ensures lines { (texts : Texts) → let d = drawing_of frame.now.table.now texts in
+        AtText d row k sheet.old slots.old →
+        WritesLines D.takes D.breaks writer.old writer.new sheet.old.begun sheet.new.begun
+        (margined d sheet.old.written (TextLine (text_line d row k) ∷ [])) result }
+    ensures kept { OnOk result ((texts : Texts) → let d = drawing_of frame.now.table.now texts in
+        AtText d row k sheet.old slots.old → AtText d row (k + 1) sheet.new slots.new) }
 {
     begin_beside(frame, sheet)?;
     frame.push_text_line(slots, row, k, &mut sheet.line)?;
@@ -136,9 +128,9 @@ fn draw_text_line<'a, T: Cell, D: Delivery<W>, W>(
 
 /// Begins a line of the table, with the left margin.
 pub fn begin_beside(frame: &Frame<'_>, sheet: &mut Sheet) -> Result<(), AllocError>
-    ensures line { OnOk result ((parts : TableParts) (texts : Texts) → IsFrame parts frame.now →
+    ensures line { OnOk result ((texts : Texts) →
         string_bytes sheet.new.line ≡ separator sheet.old.begun
-        ++ left_margin_at (drawing_of parts texts) sheet.old.written) }
+        ++ left_margin_at (drawing_of frame.now.table.now texts) sheet.old.written) }
     ensures written { sheet.new.written ≡ sheet.old.written }
     ensures begun { sheet.new.begun ≡ sheet.old.begun }
 {
@@ -164,10 +156,9 @@ pub fn end_beside<D: Delivery<W>, W>(
     writer: &mut W,
 ) -> Result<(), DrawError>
     requires { sheet.old.written < 2 ^ 64 - 1 }
-    ensures bytes { (parts : TableParts) (texts : Texts) → IsFrame parts frame.now →
+    ensures bytes { (texts : Texts) → let d = drawing_of frame.now.table.now texts in
         Writes D.takes D.breaks writer.old writer.new
-        (string_bytes sheet.old.line ++ right_margin_at (drawing_of parts texts) sheet.old.written)
-        result }
+        (string_bytes sheet.old.line ++ right_margin_at d sheet.old.written) result }
     ensures written { OnOk result (sheet.new.written ≡ sheet.old.written + 1) }
     ensures begun { OnOk result (sheet.new.begun ≡ true) }
 {

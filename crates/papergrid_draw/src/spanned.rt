@@ -1,12 +1,10 @@
 //! The rows of a table whose cells may span others.
 
 ghost use Rattle.std.specs.Prelude.{◌≡◌, ◌+◌, ◌-◌, ◌<◌, IfOk, OnOk, length};
-ghost use Rattle.papergrid_layout.specs.Tables.{view_of};
 ghost use Rattle.papergrid_draw.specs.Drawings.{drawn_of};
 ghost use Rattle.papergrid_draw.specs.Drawn.{drawn_lines, row_lines};
-ghost use Rattle.papergrid_draw.specs.Tiles.{IsTiled};
-ghost use Rattle.papergrid_draw.specs.ForProofs.Pages.{AreSlotsSet, IsFrame};
-ghost use Rattle.papergrid_draw.specs.ForProofs.Sheets.{AtRow, WritesLines, margined, told_texts};
+ghost use Rattle.papergrid_draw.specs.ForProofs.Pages.{AreSlotsSet};
+ghost use Rattle.papergrid_draw.specs.ForProofs.Sheets.{AtRow, WritesLines, margined};
 
 use crate::delivery::Delivery;
 use crate::error::DrawError;
@@ -28,9 +26,7 @@ pub fn draw_spanned_rows<'a, S: Cells, D: Delivery<W>, W>(
 ) -> Result<(), DrawError>
 where
     S::Cell: Drop,
-    requires frame { IsFrame frame.now.table.now frame.now }
-    requires tiled { IsTiled (view_of frame.now.table.now) }
-    requires start { sheet.old.written ≡ 0 }
+    requires { sheet.old.written ≡ 0 }
     ensures { let d = drawn_of S.lines S.color frame.now.table.now cells.now in
         WritesLines D.takes D.breaks writer.old writer.new
         sheet.old.begun sheet.new.begun (margined d 0 (drawn_lines d)) result }
@@ -71,15 +67,14 @@ fn draw_row<'a, S: Cells, D: Delivery<W>, W>(
 ) -> Result<(), DrawError>
 where
     S::Cell: Drop,
-    requires tiled { IsTiled (view_of frame.now.table.now) }
     requires row_in { row < length frame.now.table.now.heights }
-    requires comes { AtRow frame.now.table.now (told_texts S.lines S.color cells.now) frame.now
+    requires comes { AtRow (drawn_of S.lines S.color frame.now.table.now cells.now)
         row sheet.old slots.old }
     ensures lines { let d = drawn_of S.lines S.color frame.now.table.now cells.now in
         WritesLines D.takes D.breaks writer.old writer.new
         sheet.old.begun sheet.new.begun (margined d sheet.old.written (row_lines d row)) result }
-    ensures kept { OnOk result (AtRow frame.now.table.now (told_texts S.lines S.color cells.now)
-        frame.now (row + 1) sheet.new slots.new) }
+    ensures kept { OnOk result (AtRow (drawn_of S.lines S.color frame.now.table.now cells.now)
+        (row + 1) sheet.new slots.new) }
 {
     set_row(frame, cells, slots, row)?;
     draw_rule::<S::Cell, D, W>(frame, slots, row, sheet, writer)?;
@@ -95,8 +90,6 @@ fn set_row<'a, S: Cells>(
 ) -> Result<(), AllocError>
 where
     S::Cell: Drop,
-    requires frame { IsFrame frame.now.table.now frame.now }
-    requires tiled { IsTiled (view_of frame.now.table.now) }
     requires row_in { row < length frame.now.table.now.heights }
     requires comes { AreSlotsSet (drawn_of S.lines S.color frame.now.table.now cells.now)
         row 0 slots.old }

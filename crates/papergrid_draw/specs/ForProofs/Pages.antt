@@ -1,7 +1,8 @@
 -- A table while it is drawn: what stands in each column of a row.
-use Rattle.std.specs.Prelude.{◌≡◌, ◌+◌, ◌-◌, ◌==◌, ◌^◌, ◌<◌, ◌≤◌, ℕ, Bool, List, Option, Some, None, if◌then◌else◌, length, slice_get, slice_index, slice_index_or, true}
+use Rattle.std.specs.Prelude.{◌≡◌, ◌+◌, ◌-◌, ◌==◌, ◌^◌, ◌<◌, ◌≤◌, ℕ, Bool, List, [], Option, Some, None, if◌then◌else◌, length, slice_get, slice_index, slice_index_or}
 use Rattle.papergrid_values.specs.declared.direction.Direction.TheVariants.{Rows}
 use Rattle.papergrid_values.specs.declared.position.Position.{Position}
+use Rattle.papergrid_config.specs.declared.spanned.SpannedConfig.{SpannedConfig}
 use Rattle.papergrid_layout.specs.Places.{begin_along, line_offset, offset, total_along, track_line, track_size}
 use Rattle.papergrid_layout.specs.Tables.{TableParts, view_of}
 use Rattle.papergrid_draw.specs.Bytes.{pieces_bytes}
@@ -10,7 +11,7 @@ use Rattle.papergrid_draw.specs.Drawings.{Drawing, layout_of}
 use Rattle.papergrid_draw.specs.Drawn.{draws_vertical, owner_at, vertical_pieces}
 use Rattle.papergrid_draw.specs.Pieces.{fill_text}
 use Rattle.papergrid_draw.specs.ForProofs.Looks.{IsLookedUp}
-use Rattle.papergrid_draw.specs.declared.page.Frame.{Frame}
+use Rattle.papergrid_draw.specs.declared.look.Looks.{Looks}
 use Rattle.papergrid_draw.specs.declared.page.Slot.{Slot}
 
 -- what is told of the cells of a table: the lines of each text with their widths, and its colour
@@ -35,22 +36,26 @@ pub record AreVerticals (parts : TableParts) (lines : List Bool) : Type 0 where
   pub each : (texts : Texts) (j : ℕ) (other : Bool) → j ≤ length parts.widths →
       slice_index_or lines j other ≡ draws_vertical (drawing_of parts texts) j
 
--- the character of each vertical line in all rows, as far as they go: a line has no other there, and no colour
-abbrev pub HaveCharacters : TableParts → List ℕ → Type 0
-HaveCharacters parts characters = (texts : Texts) (r j k character : ℕ) → slice_get characters j ≡ Some character →
-    draws_vertical (drawing_of parts texts) j ≡ true →
-    pieces_bytes (vertical_pieces (drawing_of parts texts) r j k) ≡ fill_text character 1
+-- the bytes of a vertical line that has this character and no colour, or of none
+abbrev pub character_bytes : Option ℕ → List ℕ
+character_bytes None = []
+character_bytes (Some character) = fill_text character 1
 
--- what is read of a table once
-pub record IsFrame (parts : TableParts) (frame : Frame) : Type 0 where
-  pub table : frame.table.now ≡ parts
-  pub config : frame.config.now ≡ parts.config
-  pub shape : frame.shape ≡ (length parts.heights, length parts.widths)
-  pub high : frame.height ≡ total_along (view_of parts) Rows
+-- what stands for each vertical line in all rows, as far as the characters go
+abbrev pub HaveCharacters : TableParts → List (Option ℕ) → Type 0
+HaveCharacters parts characters = (texts : Texts) (r j k : ℕ) (found : Option ℕ) → slice_get characters j ≡ Some found →
+    pieces_bytes (vertical_pieces (drawing_of parts texts) r j k) ≡ character_bytes found
+
+-- what is read of a table once: its configuration, its shape, its height, and what all its cells and vertical lines have in common
+pub record IsFrame (parts : TableParts) (config : SpannedConfig) (shape : ℕ × ℕ) (height : ℕ) (looks : Looks)
+    (verticals : List Bool) (characters : List (Option ℕ)) : Type 0 where
+  pub config_is : config ≡ parts.config
+  pub shape_is : shape ≡ (length parts.heights, length parts.widths)
+  pub high : height ≡ total_along (view_of parts) Rows
   pub fit : total_along (view_of parts) Rows < 2 ^ 64
-  pub looks : IsLookedUp parts.config frame.looks
-  pub verticals : AreVerticals parts frame.verticals.items
-  pub characters : HaveCharacters parts frame.characters.items
+  pub looks_are : IsLookedUp parts.config looks
+  pub verticals_are : AreVerticals parts verticals
+  pub characters_are : HaveCharacters parts characters
 
 module _ (d : Drawing) where
   -- the line of the table on which row r begins, with the horizontal line before it

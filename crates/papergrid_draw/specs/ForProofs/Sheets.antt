@@ -6,7 +6,6 @@ use Rattle.papergrid_values.specs.Positions.{IsBefore, position_of}
 use Rattle.papergrid_values.specs.declared.direction.Direction.TheVariants.{Rows}
 use Rattle.papergrid_values.specs.declared.position.Position.{Position}
 use Rattle.papergrid_layout.specs.Places.{total_along}
-use Rattle.papergrid_layout.specs.Tables.{TableParts}
 use Rattle.papergrid_draw.specs.Bytes.{line_bytes}
 use Rattle.papergrid_draw.specs.Drawings.{Drawing, layout_of}
 use Rattle.papergrid_draw.specs.Drawn.{DrawnLine, TextLine, text_line}
@@ -14,10 +13,9 @@ use Rattle.papergrid_draw.specs.Faults.{HasNoRoom, IsDrawFault}
 use Rattle.papergrid_draw.specs.Margins.{beside, with_margins}
 use Rattle.papergrid_draw.specs.Deliveries.{BreaksOff, IsLeftOff, TakesBeginning}
 use Rattle.papergrid_draw.specs.Tiles.{IsFirstPosition}
-use Rattle.papergrid_draw.specs.ForProofs.Pages.{AreSlotsSet, AreSlots, IsFrame, Texts, drawing_of, row_start, text_start}
+use Rattle.papergrid_draw.specs.ForProofs.Pages.{AreSlotsSet, AreSlots, Texts, row_start, text_start}
 use Rattle.papergrid_draw.specs.declared.error.DrawError.{DrawError}
 use Rattle.papergrid_draw.specs.declared.error.DrawError.TheVariants.{Memory, NoRoom, NotTiled, OutOfTable, TooLarge, Write}
-use Rattle.papergrid_draw.specs.declared.page.Frame.{Frame}
 use Rattle.papergrid_draw.specs.declared.page.Slot.{Slot}
 use Rattle.papergrid_draw.specs.declared.sheet.Sheet.{Sheet}
 
@@ -85,29 +83,25 @@ module _ (d : Drawing) where
   abbrev pub first_text_lines : ℕ → ℕ → List DrawnLine
   first_text_lines r k = map (λ i. TextLine (text_line d r i)) (range_with_len 0 k)
 
--- a table, whose texts may be any, is drawn: its frame, its lines that are written, and its slots
-module _ (parts : TableParts) (texts : Texts) (frame : Frame) where
+-- a table is drawn: its lines that are written, and its slots
+module _ (d : Drawing) where
   -- the horizontal line before row r comes next, or where there is none, what comes after it
   pub record AtRule {T : Type 0} (r : ℕ) (sheet : Sheet) (slots : List (Slot T)) : Type 0 where
-    pub frame_is : IsFrame parts frame
-    pub row_in : r ≤ length parts.heights
-    pub written : sheet.written ≡ row_start (drawing_of parts texts) r
-    pub each : length slots ≡ length parts.widths
-    pub kept : r < length parts.heights →
-        AreSlots (drawing_of parts texts) r (λ _. row_start (drawing_of parts texts) r) slots
+    pub row_in : r ≤ d.shape.0
+    pub written : sheet.written ≡ row_start d r
+    pub each : length slots ≡ d.shape.1
+    pub kept : r < d.shape.0 → AreSlots d r (λ _. row_start d r) slots
 
   -- text line k of row r comes next, or after the last one the next row
   pub record AtText {T : Type 0} (r k : ℕ) (sheet : Sheet) (slots : List (Slot T)) : Type 0 where
-    pub frame_is : IsFrame parts frame
-    pub row_in : r < length parts.heights
-    pub written : sheet.written ≡ text_start (drawing_of parts texts) r + k
-    pub kept : AreSlots (drawing_of parts texts) r (λ _. text_start (drawing_of parts texts) r + k) slots
+    pub row_in : r < d.shape.0
+    pub written : sheet.written ≡ text_start d r + k
+    pub kept : AreSlots d r (λ _. text_start d r + k) slots
 
   -- row r comes next, whose cells are not taken, or none
   pub record AtRow {T : Type 0} (r : ℕ) (sheet : Sheet) (slots : List (Slot T)) : Type 0 where
-    pub frame_is : IsFrame parts frame
-    pub written : sheet.written ≡ row_start (drawing_of parts texts) r
-    pub kept : AreSlotsSet (drawing_of parts texts) r 0 slots
+    pub written : sheet.written ≡ row_start d r
+    pub kept : AreSlotsSet d r 0 slots
 
 -- ---- room
 

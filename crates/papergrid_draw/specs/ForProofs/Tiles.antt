@@ -1,5 +1,9 @@
 -- What is known of the owner of a position, and on walks that check that each position has just one.
-use Rattle.std.specs.Prelude.{◌≡◌, ◌⊎◌, ℕ, ◌+◌, ◌<◌, ◌≤◌, ◌^◌, List, Some, length, slice_get, slice_index}
+use mathlib.Core.HLevel.{Π_prop, ⊥_prop, is_prop→PathP}
+use denote.Struct.Props.{props}
+use base.Stored.{Coded-set}
+use Rattle.std.specs.Prelude.{◌≡◌, ◌⊎◌, ℕ, ◌+◌, ◌<◌, ◌≤◌, ◌^◌, List, Some, length, refl, slice_get, slice_index}
+use Rattle.std.specs.Coded.{Coded, code_by, coded×, coded_ℕ}
 use Rattle.papergrid_values.specs.Positions.{IsBefore, position_of}
 use Rattle.papergrid_values.specs.declared.direction.Direction.TheVariants.{Columns, Rows}
 use Rattle.papergrid_values.specs.declared.position.Position.{Position}
@@ -7,7 +11,7 @@ use Rattle.papergrid_maps.specs.declared.anchors.Anchor.{Anchor}
 use Rattle.papergrid_walk.specs.ForProofs.Shown.{Shows}
 use Rattle.papergrid_walk.specs.ForProofs.Swept.{Walk}
 use Rattle.papergrid_layout.specs.Places.{TableView}
-use Rattle.papergrid_draw.specs.Tiles.{AreWithin, IsTablePosition, IsOwnedOnce, EndsOutside, Owns, owner}
+use Rattle.papergrid_draw.specs.Tiles.{AreWithin, IsTablePosition, IsTiled, IsOwnedOnce, EndsOutside, Owns, owner}
 use Rattle.papergrid_draw.specs.declared.tiles.Tiling.{Tiling}
 
 -- the cell at p is the owner of q, and no other visible cell covers that; p is a cell of the table, and ends in it
@@ -63,3 +67,26 @@ pub record HasTiled (table : TableView) (r c : ℕ) (tiling : Tiling) : Type 0 w
 pub record EndInTable (table : TableView) (anchors : List Anchor) (i : ℕ) (walk : Walk) : Type 0 where
   pub shows : (k : ℕ) (a : Anchor) → i ≤ k → slice_get anchors k ≡ Some a → Shows table.grid walk a.position.row a.position.col
   pub none : (k : ℕ) (a : Anchor) → k < i → slice_get anchors k ≡ Some a → EndsOutside table a.position → ⊥
+
+-- ---- a table is tiled in one way at most
+
+position_code : Coded Position
+position_code = code_by (ℕ × ℕ) (coded× coded_ℕ coded_ℕ) (λ p. (p.row, p.col)) (λ p. record { row = p.0; col = p.1 }) (λ _. refl)
+
+Owns-prop : (table : TableView) (p q : Position) → IsProp (Owns table p q)
+Owns-prop table p q = Prim.hlevel props
+
+IsOwnedOnce-prop : (table : TableView) (q : Position) → IsProp (IsOwnedOnce table q)
+IsOwnedOnce-prop table q a b =
+    let same : a.0 ≡ b.0 = b.2 a.0 a.1 in λ i. (
+      same i,
+      is_prop→PathP (λ j. Owns table (same j) q) (λ j. Owns-prop table (same j) q) a.1 b.1 i,
+      is_prop→PathP (λ j. (other : Position) → Owns table other q → other ≡ same j)
+          (λ j. Π_prop (λ other. Π_prop (λ _. Coded-set position_code other (same j)))) a.2 b.2 i,
+    )
+
+pub IsTiled-prop : (table : TableView) → IsProp (IsTiled table)
+IsTiled-prop table a b = λ i. record {
+  within = Π_prop (λ p. Π_prop (λ _. ⊥_prop)) a.within b.within i;
+  once = Π_prop (λ q. Π_prop (λ _. IsOwnedOnce-prop table q)) a.once b.once i;
+}

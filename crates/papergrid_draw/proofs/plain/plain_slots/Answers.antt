@@ -14,8 +14,8 @@ loop-col-preserved g c =
     let d = drawn_of g.S.Cells.lines g.S.Cells.color parts c.args.cells.now in
     let row = c.args.row in
     let col = c.loop-col.col in
-    let inside = column-in parts c.args.frame.now c.requires.frame col c.loop-col-test.true in
-    let made = c.block-block.ensures parts texts c.requires.frame
+    let inside = column-in c.args.frame.now col c.loop-col-test.true in
+    let made = c.block-block.ensures texts
     (plain-inside d c.requires.plain (position_of (row, col)) c.requires.row_in inside) c.in_ok-cell.ensures c.color.ensures in
     let more = one-more (λ j slot. IsSlot d row j (text_start d row) slot) c.loop-col.slots.items c.push.new.self.items col _
     c.in_ok-push.ensures.items c.loop-col.invariant.many c.loop-col.invariant.are (plain-slot d c.requires.plain row col c.block-block.result made) in
@@ -23,7 +23,7 @@ loop-col-preserved g c =
 
 pub returns : goal.returns
 returns g c =
-    let all = columns-all c.args.frame.now.table.now c.args.frame.now c.requires.frame c.loop-col.col c.loop-col-test.false c.loop-col.auto.col-end in
+    let all = columns-all c.args.frame.now c.loop-col.col c.loop-col-test.false c.loop-col.auto.col-end in
     record {
       each = omega (arith, c.loop-col.invariant.many, all);
       kept = λ j other inside. c.loop-col.invariant.are j other (omega (arith, inside, all));

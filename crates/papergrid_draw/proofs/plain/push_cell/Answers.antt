@@ -15,8 +15,8 @@ pub returns-in-None-Some : goal.returns-in-None-Some
 returns-in-None-Some g c =
     let d = drawn_of g.S.Cells.lines g.S.Cells.color c.args.frame.now.table.now c.args.cells.now in
     let p = c.args.position in
-    let between = c.requires.frame.looks.blanks c.in-Some.blanks c.in-Some.is p in
-    let horizontal = sym (c.horizontal-horizontal.ensures ∙ ap (λ (s : SpannedConfig). stored_value s.alignment_horizontal p) c.requires.frame.config) in
+    let between = c.args.frame.now.read.looks_are.blanks c.in-Some.blanks c.in-Some.is p in
+    let horizontal = sym (c.horizontal-horizontal.ensures ∙ ap (λ (s : SpannedConfig). stored_value s.alignment_horizontal p) c.args.frame.now.read.config_is) in
     let lines = sym (single_is (g.S.Cells.lines c.args.cells.now p) (c.in-None-Some.text.now, c.in-None-Some.own) (sym c.in-None-Some.ensures')) in
     let color = sym c.in-None-Some.ensures in
     let width : c.get_width-width.result ≡ length_along (layout_of d) Columns p = c.get_width-width.ensures ∙ sym (plain-width d c.requires.plain p) in
@@ -27,10 +27,9 @@ returns-in-None-Some g c =
 
 pub returns : goal.returns
 returns g c =
-    let read = c.requires.frame in
     let d = drawn_of g.S.Cells.lines g.S.Cells.color c.args.frame.now.table.now c.args.cells.now in
     let p = c.args.position in
-    let look = c.get-look.ensures ∙ ap (λ (s : SpannedConfig). look_of s p) read.config in
+    let look = c.get-look.ensures ∙ ap (λ (s : SpannedConfig). look_of s p) c.args.frame.now.read.config_is in
     let lines = sym c.in_ok-cell.ensures in
     let color = sym c.color-2.ensures in
     let width : c.get_width-width.result ≡ length_along (layout_of d) Columns p = c.get_width-width.ensures ∙ sym (plain-width d c.requires.plain p) in

@@ -12,7 +12,7 @@ use Rattle.papergrid_draw.proofs.RuleLemmas.{columns-all}
 use Rattle.papergrid_draw.proofs.plain.push_plain_text_line.Goals as goal
 
 pub push_line_before-requires : goal.push_line_before-requires
-push_line_before-requires g c = (c.args.frame.now.table.now, c.requires.frame, (let wide = frame-columns c.requires.frame in omega (arith, wide)))
+push_line_before-requires g c = omega arith
 
 pub loop-col-preserved : goal.loop-col-preserved
 loop-col-preserved g c =
@@ -21,26 +21,26 @@ loop-col-preserved g c =
     let d = drawn_of g.S.Cells.lines g.S.Cells.color parts c.args.cells.now in
     let row = c.args.row in
     let col = c.loop-col.col in
-    let wide = frame-columns c.requires.frame in
+    let wide = frame-columns c.args.frame.now in
     let within : col ≤ length parts.widths = omega (arith, wide) in
     let line = string_bytes c.loop-col.line in
     column-more (column_pieces d row 0) col (string_bytes c.args.line.now) line (string_bytes c.push_cell.new.line) c.loop-col.invariant
     (added-pieces line (string_bytes c.push_line_before.new.line) (string_bytes c.push_cell.new.line)
     (vertical_pieces d row col 0) (content (block_at d (position_of (row, col))) 0)
-    (c.in_ok-push_line_before.ensures parts texts c.requires.frame (sym c.requires.low)) c.in_ok-push_cell.ensures
+    (c.in_ok-push_line_before.ensures texts (sym c.requires.low)) c.in_ok-push_cell.ensures
     ∙ ap (λ pieces. line ++ pieces_bytes pieces) (plain-column d c.requires.plain row 0 col))
 
 pub push_line_before-requires-2 : goal.push_line_before-requires-2
-push_line_before-requires-2 g c = (c.args.frame.now.table.now, c.requires.frame, (let wide = frame-columns c.requires.frame in omega (arith, wide)))
+push_line_before-requires-2 g c = omega arith
 
 pub returns : goal.returns
 returns g c = on_ok_weaker c.push_line_before-2.result (λ added.
     let parts = c.args.frame.now.table.now in
     let texts = told_texts g.S.Cells.lines g.S.Cells.color c.args.cells.now in
-    let wide : c.args.frame.now.shape.1 ≡ length parts.widths = frame-columns c.requires.frame in
+    let wide : c.args.frame.now.shape.1 ≡ length parts.widths = frame-columns c.args.frame.now in
     let within : c.args.frame.now.shape.1 ≤ length parts.widths = omega (arith, wide) in
-    let all = columns-all parts c.args.frame.now c.requires.frame c.loop-col.col c.loop-col-test.false c.loop-col.auto.col-end in
+    let all = columns-all c.args.frame.now c.loop-col.col c.loop-col-test.false c.loop-col.auto.col-end in
     line-done (drawn_of g.S.Cells.lines g.S.Cells.color parts c.args.cells.now) c.args.row 0 c.loop-col.col c.args.frame.now.shape.1
     (string_bytes c.args.line.now) (string_bytes c.loop-col.line) (string_bytes c.push_line_before-2.new.line) all wide c.loop-col.invariant
-    (added parts texts c.requires.frame (sym c.requires.low)))
+    (added texts (sym c.requires.low)))
     c.push_line_before-2.ensures

@@ -27,7 +27,7 @@ end_beside-requires g c =
     let d = drawn_of g.S.Cells.lines g.S.Cells.color parts c.args.cells.now in
     let some : 0 < d.heights c.args.row = omega (arith, c.requires.low) in
     let within : text_start d c.args.row + 0 < total_along (view_of parts) Rows = text-within d c.args.row 0 c.requires.row_in some in
-    omega (arith, within, c.requires.frame.fit, c.requires.start, c.in_ok-begin_beside.ensures.written)
+    omega (arith, within, c.args.frame.now.read.fit, c.requires.start, c.in_ok-begin_beside.ensures.written)
 
 pub returns-clause-lines : goal.returns-clause-lines
 returns-clause-lines g c =
@@ -38,7 +38,7 @@ returns-clause-lines g c =
     (margined d y (TextLine (text_line d c.args.row 0) ∷ [])) c.end_beside.result) c.requires.start
     (one-margined d g.D.Delivery.takes g.D.Delivery.breaks _ _ _ _ c.args.sheet.now.written _ (TextLine (text_line d c.args.row 0)) _ _ _
     c.in_ok-begin_beside.ensures.written
-    (c.in_ok-begin_beside.ensures.line parts texts c.requires.frame)
+    (c.in_ok-begin_beside.ensures.line texts)
     c.in_ok-push_plain_text_line.ensures
-    (c.end_beside.ensures.bytes parts texts c.requires.frame)
+    (c.end_beside.ensures.bytes texts)
     c.end_beside.ensures.begun)

@@ -20,7 +20,7 @@ pub returns-in_err-draw_plain_row : goal.returns-in_err-draw_plain_row
 returns-in_err-draw_plain_row g c =
     let d = drawn_of g.S.Cells.lines g.S.Cells.color c.args.frame.now.table.now c.args.cells.now in
     let p = err_from_is_err_and c.from_residual.result c.from_residual.ensures.1 in
-    let below : c.loop-row.row < d.shape.0 = omega (arith, ap (λ s. s.0) c.requires.frame.shape) in
+    let below : c.loop-row.row < d.shape.0 = omega (arith, ap (λ s. s.0) c.args.frame.now.read.shape_is) in
     rw (p.1, p.2)
     (drawn-cut d g.D.Delivery.takes g.D.Delivery.breaks _ _ _ _ _ _ _ (row_start d c.loop-row.row) c.loop-row.row tt _ below refl c.loop-row.invariant.wrote c.in_err-draw_plain_row.ensures.lines)
 
@@ -45,7 +45,7 @@ returns g c =
     let texts = told_texts g.S.Cells.lines g.S.Cells.color c.args.cells.now in
     let d = drawn_of g.S.Cells.lines g.S.Cells.color parts c.args.cells.now in
     let last : c.loop-row.row ≡ c.args.frame.now.shape.0 = omega arith in
-    let end : c.loop-row.row ≡ length parts.heights = omega (arith, ap (λ s. s.0) c.requires.frame.shape) in
+    let end : c.loop-row.row ≡ length parts.heights = omega (arith, ap (λ s. s.0) c.args.frame.now.read.shape_is) in
     drawn-all d g.D.Delivery.takes g.D.Delivery.breaks _ _ _ _ _ _ (row_start d c.loop-row.row) c.loop-row.row tt _ end refl c.loop-row.invariant.wrote
     (subst (λ r. WritesLines g.D.Delivery.takes g.D.Delivery.breaks c.loop-row.writer c.draw_plain_rule.new.writer c.loop-row.sheet.begun c.draw_plain_rule.new.sheet.begun
     (margined d (row_start d r) (rule_lines d r)) c.draw_plain_rule.result) (sym last) (c.draw_plain_rule.ensures.lines texts))

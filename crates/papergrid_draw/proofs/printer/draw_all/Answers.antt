@@ -12,10 +12,10 @@ returns-in_err-draw_margin g c =
     rw (p.1, p.2)
     (picture-cut-above d g.D.Delivery.takes g.D.Delivery.breaks _ _ _ _ _ c.new-sheet.ensures.begun
     (lines-same g.D.Delivery.takes g.D.Delivery.breaks _ _ _ _ _ (top_lines d) _ (same-margin _ _ _ _ _ _ _ _
-    (ap (λ m. m.top) (c.get_margin-margin.ensures ∙ ap (λ (k : SpannedConfig). k.margin) c.requires.frame.config))
-    (c.get_margin_color-color.ensures.top ∙ ap (λ (k : SpannedConfig). k.margin_color.top) c.requires.frame.config)
-    (ap (λ m. m.top) (c.get_margin_offset-offset.ensures ∙ ap (λ (k : SpannedConfig). k.margin_offset) c.requires.frame.config))
-    c.requires.width)
+    (ap (λ m. m.top) (c.get_margin-margin.ensures ∙ ap (λ (k : SpannedConfig). k.margin) c.args.frame.now.read.config_is))
+    (c.get_margin_color-color.ensures.top ∙ ap (λ (k : SpannedConfig). k.margin_color.top) c.args.frame.now.read.config_is)
+    (ap (λ m. m.top) (c.get_margin_offset-offset.ensures ∙ ap (λ (k : SpannedConfig). k.margin_offset) c.args.frame.now.read.config_is))
+    c.requires)
     c.in_err-draw_margin.ensures.lines))
 
 pub returns-in_err-draw_rows : goal.returns-in_err-draw_rows
@@ -25,10 +25,10 @@ returns-in_err-draw_rows g c =
     rw (p.1, p.2)
     (picture-cut d g.D.Delivery.takes g.D.Delivery.breaks _ _ _ _ _ _ tt _ c.new-sheet.ensures.begun
     (lines-same g.D.Delivery.takes g.D.Delivery.breaks _ _ _ _ _ (top_lines d) _ (same-margin _ _ _ _ _ _ _ _
-    (ap (λ m. m.top) (c.get_margin-margin.ensures ∙ ap (λ (k : SpannedConfig). k.margin) c.requires.frame.config))
-    (c.get_margin_color-color.ensures.top ∙ ap (λ (k : SpannedConfig). k.margin_color.top) c.requires.frame.config)
-    (ap (λ m. m.top) (c.get_margin_offset-offset.ensures ∙ ap (λ (k : SpannedConfig). k.margin_offset) c.requires.frame.config))
-    c.requires.width)
+    (ap (λ m. m.top) (c.get_margin-margin.ensures ∙ ap (λ (k : SpannedConfig). k.margin) c.args.frame.now.read.config_is))
+    (c.get_margin_color-color.ensures.top ∙ ap (λ (k : SpannedConfig). k.margin_color.top) c.args.frame.now.read.config_is)
+    (ap (λ m. m.top) (c.get_margin_offset-offset.ensures ∙ ap (λ (k : SpannedConfig). k.margin_offset) c.args.frame.now.read.config_is))
+    c.requires)
     c.in_ok-draw_margin.ensures.lines)
     c.in_err-draw_rows.ensures)
 
@@ -37,15 +37,15 @@ returns g c =
     let d = drawn_of g.S.Cells.lines g.S.Cells.color c.args.frame.now.table.now c.args.cells.now in
     picture-whole d g.D.Delivery.takes g.D.Delivery.breaks _ _ _ _ _ _ _ _ tt tt _ c.new-sheet.ensures.begun
     (lines-same g.D.Delivery.takes g.D.Delivery.breaks _ _ _ _ _ (top_lines d) _ (same-margin _ _ _ _ _ _ _ _
-    (ap (λ m. m.top) (c.get_margin-margin.ensures ∙ ap (λ (k : SpannedConfig). k.margin) c.requires.frame.config))
-    (c.get_margin_color-color.ensures.top ∙ ap (λ (k : SpannedConfig). k.margin_color.top) c.requires.frame.config)
-    (ap (λ m. m.top) (c.get_margin_offset-offset.ensures ∙ ap (λ (k : SpannedConfig). k.margin_offset) c.requires.frame.config))
-    c.requires.width)
+    (ap (λ m. m.top) (c.get_margin-margin.ensures ∙ ap (λ (k : SpannedConfig). k.margin) c.args.frame.now.read.config_is))
+    (c.get_margin_color-color.ensures.top ∙ ap (λ (k : SpannedConfig). k.margin_color.top) c.args.frame.now.read.config_is)
+    (ap (λ m. m.top) (c.get_margin_offset-offset.ensures ∙ ap (λ (k : SpannedConfig). k.margin_offset) c.args.frame.now.read.config_is))
+    c.requires)
     c.in_ok-draw_margin.ensures.lines)
     c.in_ok-draw_rows.ensures
     (lines-same g.D.Delivery.takes g.D.Delivery.breaks _ _ _ _ _ (bottom_lines d) _ (same-margin _ _ _ _ _ _ _ _
-    (ap (λ m. m.bottom) (c.get_margin-margin.ensures ∙ ap (λ (k : SpannedConfig). k.margin) c.requires.frame.config))
-    (c.get_margin_color-color.ensures.bottom ∙ ap (λ (k : SpannedConfig). k.margin_color.bottom) c.requires.frame.config)
-    (ap (λ m. m.bottom) (c.get_margin_offset-offset.ensures ∙ ap (λ (k : SpannedConfig). k.margin_offset) c.requires.frame.config))
-    c.requires.width)
+    (ap (λ m. m.bottom) (c.get_margin-margin.ensures ∙ ap (λ (k : SpannedConfig). k.margin) c.args.frame.now.read.config_is))
+    (c.get_margin_color-color.ensures.bottom ∙ ap (λ (k : SpannedConfig). k.margin_color.bottom) c.args.frame.now.read.config_is)
+    (ap (λ m. m.bottom) (c.get_margin_offset-offset.ensures ∙ ap (λ (k : SpannedConfig). k.margin_offset) c.args.frame.now.read.config_is))
+    c.requires)
     c.draw_margin-2.ensures.lines)

@@ -6,7 +6,6 @@ use Rattle.papergrid_layout.specs.Tables.{TableParts, view_of}
 use Rattle.papergrid_draw.specs.Drawings.{drawn_of}
 use Rattle.papergrid_draw.specs.Faults.{AllHaveRoom}
 use Rattle.papergrid_draw.specs.Margins.{printed_lines}
-use Rattle.papergrid_draw.specs.Tiles.{IsTiled}
 use Rattle.papergrid_draw.specs.ForProofs.Sheets.{Draws}
 use Rattle.papergrid_draw.proofs.DeliveryLemmas.{draws-refused}
 use Rattle.papergrid_draw.proofs.RefusalLemmas.{memory-refusal, tile-refusal}
@@ -25,16 +24,14 @@ returns-in_err-frame g c =
     let p = err_from_is_err_and c.from_residual-in_err-frame.result c.from_residual-in_err-frame.ensures.1 in
     rw (p.1, p.2) (draws-refused g.D.Delivery.takes g.D.Delivery.breaks _ d _ _ (memory-refusal d _))
 
-pub draw_tiled-requires-clause-tiled : goal.draw_tiled-requires-clause-tiled
-draw_tiled-requires-clause-tiled g c =
-    subst (λ (t : TableParts). IsTiled (view_of t)) (sym c.in_ok-frame.ensures.table)
-    (c.in_ok-check_tiles.ensures.ok (view_of c.args.table.now) (ap spanned_grid (sym c.config.ensures)) (sym c.shape.ensures))
+pub new-requires : goal.new-requires
+new-requires g c = c.in_ok-check_tiles.ensures.ok (view_of c.args.table.now) (ap spanned_grid (sym c.config.ensures)) (sym c.shape.ensures)
 
-pub draw_tiled-requires-clause-known : goal.draw_tiled-requires-clause-known
-draw_tiled-requires-clause-known g c = λ known.
-    subst (λ (t : TableParts). AllHaveRoom (drawn_of g.S.Cells.lines g.S.Cells.color t c.args.cells.now)) (sym c.in_ok-frame.ensures.table) (c.requires known)
+pub draw_tiled-requires : goal.draw_tiled-requires
+draw_tiled-requires g c = λ known.
+    subst (λ (t : TableParts). AllHaveRoom (drawn_of g.S.Cells.lines g.S.Cells.color t c.args.cells.now)) (sym c.in_ok-frame.ensures) (c.requires known)
 
 pub returns : goal.returns
 returns g c =
     subst (λ (t : TableParts). Draws g.D.Delivery.takes g.D.Delivery.breaks (drawn_of g.S.Cells.lines g.S.Cells.color t c.args.cells.now) c.args.writer.now c.draw_tiled.new.writer
-    (join_with_byte 10 (printed_lines (drawn_of g.S.Cells.lines g.S.Cells.color t c.args.cells.now))) c.draw_tiled.result) c.in_ok-frame.ensures.table c.draw_tiled.ensures
+    (join_with_byte 10 (printed_lines (drawn_of g.S.Cells.lines g.S.Cells.color t c.args.cells.now))) c.draw_tiled.result) c.in_ok-frame.ensures c.draw_tiled.ensures

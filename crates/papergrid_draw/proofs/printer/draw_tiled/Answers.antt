@@ -9,17 +9,17 @@ pub returns-in_err-find_room : goal.returns-in_err-find_room
 returns-in_err-find_room g c =
     let d = drawn_of g.S.Cells.lines g.S.Cells.color c.args.frame.now.table.now c.args.cells.now in
     let p = err_from_is_err_and c.from_residual.result c.from_residual.ensures.1 in
-    rw (p.1, p.2) (draws-refused g.D.Delivery.takes g.D.Delivery.breaks _ d _ _ (room-refusal d _ c.requires.tiled c.in_err-find_room.ensures.err))
+    rw (p.1, p.2) (draws-refused g.D.Delivery.takes g.D.Delivery.breaks _ d _ _ (room-refusal d _ c.args.frame.now.tiled c.in_err-find_room.ensures.err))
 
 pub returns-in_err-width : goal.returns-in_err-width
 returns-in_err-width g c =
     let d = drawn_of g.S.Cells.lines g.S.Cells.color c.args.frame.now.table.now c.args.cells.now in
     let p = err_from_is_err_and c.from_residual-in_err-width.result c.from_residual-in_err-width.ensures.1 in
     rw (p.1, p.2) (draws-refused g.D.Delivery.takes g.D.Delivery.breaks _ d _ _
-    (large-refusal d c.whole_width.result _ c.requires.tiled c.in_ok-find_room.ensures.ok (c.whole_width.ensures (told_texts g.S.Cells.lines g.S.Cells.color c.args.cells.now)) c.in_err-width.ensures.value))
+    (large-refusal d c.whole_width.result _ c.args.frame.now.tiled c.in_ok-find_room.ensures.ok (c.whole_width.ensures (told_texts g.S.Cells.lines g.S.Cells.color c.args.cells.now)) c.in_err-width.ensures.value))
 
-pub draw_all-requires-clause-width : goal.draw_all-requires-clause-width
-draw_all-requires-clause-width g c =
+pub draw_all-requires : goal.draw_all-requires
+draw_all-requires g c =
     width-found c.whole_width.result _ _ _ (c.whole_width.ensures (told_texts g.S.Cells.lines g.S.Cells.color c.args.cells.now)) c.in_ok-width.ensures.value
 
 pub returns : goal.returns

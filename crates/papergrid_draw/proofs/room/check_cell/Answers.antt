@@ -33,7 +33,7 @@ returns-in_default-clause-ok g c =
     let shown : table.grid.shows p ≡ true =
     shown-of (table.grid.shows p) (anchor_in table.grid p) c.in_ok-visible_anchor.field-0 true (c.in_ok-visible_anchor.ensures.visible table.grid c.requires.shows) c.if-is_none.ensures in
     let cell : IsVisibleCell table p = record { visible = shown; row_in = c.requires.row_in; col_in = c.requires.col_in } in
-    absurd (none-some _ (sym c.in_default.is ∙ c.block.ensures c.args.frame.now.table.now (told_texts g.S.Cells.lines g.S.Cells.color c.args.cells.now) c.requires.frame (inside-of table p c.requires.tiled cell)
+    absurd (none-some _ (sym c.in_default.is ∙ c.block.ensures (told_texts g.S.Cells.lines g.S.Cells.color c.args.cells.now) (inside-of table p c.args.frame.now.tiled cell)
     c.in_ok-cell.ensures c.color.ensures))
 
 pub returns-then-not-has_room-clause-err : goal.returns-then-not-has_room-clause-err
@@ -44,7 +44,7 @@ returns-then-not-has_room-clause-err g c =
     let shown : table.grid.shows p ≡ true =
     shown-of (table.grid.shows p) (anchor_in table.grid p) c.in_ok-visible_anchor.field-0 true (c.in_ok-visible_anchor.ensures.visible table.grid c.requires.shows) c.if-is_none.ensures in
     let cell : IsVisibleCell table p = record { visible = shown; row_in = c.requires.row_in; col_in = c.requires.col_in } in
-    let told = c.block.ensures c.args.frame.now.table.now (told_texts g.S.Cells.lines g.S.Cells.color c.args.cells.now) c.requires.frame (inside-of table p c.requires.tiled cell)
+    let told = c.block.ensures (told_texts g.S.Cells.lines g.S.Cells.color c.args.cells.now) (inside-of table p c.args.frame.now.tiled cell)
     c.in_ok-cell.ensures c.color.ensures in
     let same : c.in-Some.block ≡ block_at d p = cc (told, c.in-Some.is) in
     let told_none : (IsTrue false → FitsPlace c.in-Some.block) × (FitsPlace c.in-Some.block → IsTrue false) = c.if-not-has_room.ensures in
@@ -61,7 +61,7 @@ returns-clause-ok g c =
     let shown : table.grid.shows p ≡ true =
     shown-of (table.grid.shows p) (anchor_in table.grid p) c.in_ok-visible_anchor.field-0 true (c.in_ok-visible_anchor.ensures.visible table.grid c.requires.shows) c.if-is_none.ensures in
     let cell : IsVisibleCell table p = record { visible = shown; row_in = c.requires.row_in; col_in = c.requires.col_in } in
-    let told = c.block.ensures c.args.frame.now.table.now (told_texts g.S.Cells.lines g.S.Cells.color c.args.cells.now) c.requires.frame (inside-of table p c.requires.tiled cell)
+    let told = c.block.ensures (told_texts g.S.Cells.lines g.S.Cells.color c.args.cells.now) (inside-of table p c.args.frame.now.tiled cell)
     c.in_ok-cell.ensures c.color.ensures in
     let same : c.in-Some.block ≡ block_at d p = cc (told, c.in-Some.is) in
     let told_room : (IsTrue true → FitsPlace c.in-Some.block) × (FitsPlace c.in-Some.block → IsTrue true) = c.if-not-has_room.ensures in

@@ -16,5 +16,5 @@ returns-clause-shows g c = shows_turn (spanned_grid c.args.frame.now.table.now.c
 
 pub returns-clause-ok : goal.returns-clause-ok
 returns-clause-ok g c =
-    let last : c.loop-col.col ≡ length c.args.frame.now.table.now.widths = omega (arith, ap (λ s. s.1) c.requires.frame.shape) in
+    let last : c.loop-col.col ≡ length c.args.frame.now.table.now.widths = omega (arith, ap (λ s. s.1) c.args.frame.now.read.shape_is) in
     room-turn (drawn_of g.S.Cells.lines g.S.Cells.color c.args.frame.now.table.now c.args.cells.now) c.args.row c.loop-col.col last c.loop-col.invariant.before

@@ -12,33 +12,33 @@ use Rattle.papergrid_draw.proofs.rows.draw_text_line.Goals as goal
 pub returns-in_err-begin_beside-clause-lines : goal.returns-in_err-begin_beside-clause-lines
 returns-in_err-begin_beside-clause-lines g c =
     let p = err_from_is_err_and c.from_residual.result c.from_residual.ensures.1 in
-    rw (p.1, p.2) (λ parts texts at. lines-refused g.D.Delivery.takes g.D.Delivery.breaks _ _ _ _ _)
+    rw (p.1, p.2) (λ texts at. lines-refused g.D.Delivery.takes g.D.Delivery.breaks _ _ _ _ _)
 
 pub returns-in_err-push_text_line-clause-lines : goal.returns-in_err-push_text_line-clause-lines
 returns-in_err-push_text_line-clause-lines g c =
     let p = err_from_is_err_and c.from_residual-in_err-push_text_line.result c.from_residual-in_err-push_text_line.ensures.1 in
-    rw (p.1, p.2) (λ parts texts at. lines-refused g.D.Delivery.takes g.D.Delivery.breaks _ _ _ _ _)
+    rw (p.1, p.2) (λ texts at. lines-refused g.D.Delivery.takes g.D.Delivery.breaks _ _ _ _ _)
 
 pub end_beside-requires : goal.end_beside-requires
 end_beside-requires g c =
     let told = c.requires in
-    let at = told.3 in
-    let within : text_start (drawing_of told.0 told.1) c.args.row + c.args.k < total_along (view_of told.0) Rows = text-within (drawing_of told.0 told.1) c.args.row c.args.k at.row_in told.2 in
-    omega (arith, within, at.frame_is.fit, at.written, c.in_ok-begin_beside.ensures.written)
+    let at = told.2 in
+    let within : text_start (drawing_of c.args.frame.now.table.now told.0) c.args.row + c.args.k < total_along (view_of c.args.frame.now.table.now) Rows = text-within (drawing_of c.args.frame.now.table.now told.0) c.args.row c.args.k at.row_in told.1 in
+    omega (arith, within, c.args.frame.now.read.fit, at.written, c.in_ok-begin_beside.ensures.written)
 
 pub returns-clause-lines : goal.returns-clause-lines
-returns-clause-lines g c = λ parts texts at.
-    let d = drawing_of parts texts in
+returns-clause-lines g c = λ texts at.
+    let d = drawing_of c.args.frame.now.table.now texts in
     one-margined d g.D.Delivery.takes g.D.Delivery.breaks _ _ _ _ c.args.sheet.now.written _ (TextLine (text_line d c.args.row c.args.k)) _ _ _
     c.in_ok-begin_beside.ensures.written
-    (c.in_ok-begin_beside.ensures.line parts texts at.frame_is)
-    (c.in_ok-push_text_line.ensures parts texts at.frame_is at.kept).0
-    (c.end_beside.ensures.bytes parts texts at.frame_is)
+    (c.in_ok-begin_beside.ensures.line texts)
+    (c.in_ok-push_text_line.ensures texts at.kept).0
+    (c.end_beside.ensures.bytes texts)
     c.end_beside.ensures.begun
 
 pub returns-clause-kept : goal.returns-clause-kept
 returns-clause-kept g c =
     on_ok_weaker c.end_beside.result
-    (λ more parts texts at. text-next parts texts c.args.frame.now c.args.row c.args.k c.args.sheet.now c.end_beside.new.sheet c.args.slots.now c.push_text_line.new.slots at
-    (more ∙ ap (λ n. n + 1) c.in_ok-begin_beside.ensures.written) (c.in_ok-push_text_line.ensures parts texts at.frame_is at.kept).1)
+    (λ more texts at. text-next (drawing_of c.args.frame.now.table.now texts) c.args.row c.args.k c.args.sheet.now c.end_beside.new.sheet c.args.slots.now c.push_text_line.new.slots at
+    (more ∙ ap (λ n. n + 1) c.in_ok-begin_beside.ensures.written) (c.in_ok-push_text_line.ensures texts at.kept).1)
     c.end_beside.ensures.written

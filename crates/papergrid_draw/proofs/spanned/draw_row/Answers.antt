@@ -14,44 +14,39 @@ returns-in_err-set_row-clause-lines g c =
 
 pub draw_rule-requires : goal.draw_rule-requires
 draw_rule-requires g c =
-    let parts = c.args.frame.now.table.now in
     let texts = told_texts g.S.Cells.lines g.S.Cells.color c.args.cells.now in
-    (parts, texts, rule-comes parts texts c.args.frame.now c.args.row c.args.sheet.now c.args.slots.now c.set_row.new.slots c.requires.comes c.requires.row_in c.in_ok-set_row.ensures)
+    (texts, rule-comes (drawn_of g.S.Cells.lines g.S.Cells.color c.args.frame.now.table.now c.args.cells.now) c.args.row c.args.sheet.now c.args.slots.now c.set_row.new.slots c.requires.comes c.requires.row_in c.in_ok-set_row.ensures)
 
 pub returns-in_err-draw_rule-clause-lines : goal.returns-in_err-draw_rule-clause-lines
 returns-in_err-draw_rule-clause-lines g c =
-    let parts = c.args.frame.now.table.now in
     let texts = told_texts g.S.Cells.lines g.S.Cells.color c.args.cells.now in
-    let d = drawn_of g.S.Cells.lines g.S.Cells.color parts c.args.cells.now in
-    let at = rule-comes parts texts c.args.frame.now c.args.row c.args.sheet.now c.args.slots.now c.set_row.new.slots c.requires.comes c.requires.row_in c.in_ok-set_row.ensures in
+    let d = drawn_of g.S.Cells.lines g.S.Cells.color c.args.frame.now.table.now c.args.cells.now in
+    let at = rule-comes d c.args.row c.args.sheet.now c.args.slots.now c.set_row.new.slots c.requires.comes c.requires.row_in c.in_ok-set_row.ensures in
     let p = err_from_is_err_and c.from_residual-in_err-draw_rule.result c.from_residual-in_err-draw_rule.ensures.1 in
     rw (p.1, p.2)
     (margined-cut d g.D.Delivery.takes g.D.Delivery.breaks _ _ _ _ _ c.args.sheet.now.written (rule_lines d c.args.row) (first_text_lines d c.args.row (d.heights c.args.row)) _
-    (c.in_err-draw_rule.ensures.lines parts texts at c.requires.tiled))
+    (c.in_err-draw_rule.ensures.lines texts at))
 
 pub draw_text_lines-requires : goal.draw_text_lines-requires
 draw_text_lines-requires g c =
-    let parts = c.args.frame.now.table.now in
     let texts = told_texts g.S.Cells.lines g.S.Cells.color c.args.cells.now in
-    let at = rule-comes parts texts c.args.frame.now c.args.row c.args.sheet.now c.args.slots.now c.set_row.new.slots c.requires.comes c.requires.row_in c.in_ok-set_row.ensures in
-    (parts, texts, c.in_ok-draw_rule.ensures.kept parts texts at c.requires.row_in)
+    let at = rule-comes (drawn_of g.S.Cells.lines g.S.Cells.color c.args.frame.now.table.now c.args.cells.now) c.args.row c.args.sheet.now c.args.slots.now c.set_row.new.slots c.requires.comes c.requires.row_in c.in_ok-set_row.ensures in
+    (texts, c.in_ok-draw_rule.ensures.kept texts at c.requires.row_in)
 
 pub returns-clause-lines : goal.returns-clause-lines
 returns-clause-lines g c =
-    let parts = c.args.frame.now.table.now in
     let texts = told_texts g.S.Cells.lines g.S.Cells.color c.args.cells.now in
-    let d = drawn_of g.S.Cells.lines g.S.Cells.color parts c.args.cells.now in
-    let at = rule-comes parts texts c.args.frame.now c.args.row c.args.sheet.now c.args.slots.now c.set_row.new.slots c.requires.comes c.requires.row_in c.in_ok-set_row.ensures in
-    let text = c.in_ok-draw_rule.ensures.kept parts texts at c.requires.row_in in
+    let d = drawn_of g.S.Cells.lines g.S.Cells.color c.args.frame.now.table.now c.args.cells.now in
+    let at = rule-comes d c.args.row c.args.sheet.now c.args.slots.now c.set_row.new.slots c.requires.comes c.requires.row_in c.in_ok-set_row.ensures in
+    let text = c.in_ok-draw_rule.ensures.kept texts at c.requires.row_in in
     margined-lines d g.D.Delivery.takes g.D.Delivery.breaks _ _ _ _ _ _ c.args.sheet.now.written c.draw_rule.new.sheet.written (rule_lines d c.args.row) (first_text_lines d c.args.row (d.heights c.args.row)) tt _
     (omega (arith, text.written, at.written, length-rule_lines d c.args.row, text-after d c.args.row))
-    (c.in_ok-draw_rule.ensures.lines parts texts at c.requires.tiled)
-    (c.draw_text_lines.ensures.lines parts texts text)
+    (c.in_ok-draw_rule.ensures.lines texts at)
+    (c.draw_text_lines.ensures.lines texts text)
 
 pub returns-clause-kept : goal.returns-clause-kept
 returns-clause-kept g c =
-    let parts = c.args.frame.now.table.now in
     let texts = told_texts g.S.Cells.lines g.S.Cells.color c.args.cells.now in
-    let at = rule-comes parts texts c.args.frame.now c.args.row c.args.sheet.now c.args.slots.now c.set_row.new.slots c.requires.comes c.requires.row_in c.in_ok-set_row.ensures in
-    let text = c.in_ok-draw_rule.ensures.kept parts texts at c.requires.row_in in
-    on_ok_weaker c.draw_text_lines.result (λ kept. row-next parts texts c.args.frame.now c.args.row c.draw_text_lines.new.sheet c.draw_text_lines.new.slots (kept parts texts text)) c.draw_text_lines.ensures.kept
+    let at = rule-comes (drawn_of g.S.Cells.lines g.S.Cells.color c.args.frame.now.table.now c.args.cells.now) c.args.row c.args.sheet.now c.args.slots.now c.set_row.new.slots c.requires.comes c.requires.row_in c.in_ok-set_row.ensures in
+    let text = c.in_ok-draw_rule.ensures.kept texts at c.requires.row_in in
+    on_ok_weaker c.draw_text_lines.result (λ kept. row-next (drawn_of g.S.Cells.lines g.S.Cells.color c.args.frame.now.table.now c.args.cells.now) c.args.row c.draw_text_lines.new.sheet c.draw_text_lines.new.slots (kept texts text)) c.draw_text_lines.ensures.kept

@@ -1,12 +1,12 @@
 use Rattle.std.proofs.Common.{Ok}
 use Rattle.papergrid_draw.specs.Drawings.{drawn_of}
-use Rattle.papergrid_draw.specs.ForProofs.Sheets.{AtRow, WritesLines, margined, told_texts}
+use Rattle.papergrid_draw.specs.ForProofs.Sheets.{AtRow, WritesLines, margined}
 use Rattle.papergrid_draw.proofs.PrinterLemmas.{first_rows}
 use Rattle.papergrid_draw.proofs.spanned.draw_spanned_rows.Given as goal
 
 abbrev pub invariant-loop-row : goal.invariant-loop-row
 invariant-loop-row g l = record {
-  comes : AtRow l.frame.table.now (told_texts g.S.Cells.lines g.S.Cells.color l.cells) l.frame l.row l.sheet l.slots.items;
+  comes : AtRow (drawn_of g.S.Cells.lines g.S.Cells.color l.frame.table.now l.cells) l.row l.sheet l.slots.items;
   lines : WritesLines g.D.Delivery.takes g.D.Delivery.breaks {A = Unit {0}} l.fn.writer l.writer l.fn.sheet.begun l.sheet.begun
       (margined (drawn_of g.S.Cells.lines g.S.Cells.color l.frame.table.now l.cells) 0
       (first_rows (drawn_of g.S.Cells.lines g.S.Cells.color l.frame.table.now l.cells) l.row)) (Ok tt);

@@ -5,20 +5,17 @@ use Rattle.papergrid_draw.specs.ForProofs.Sheets.{told_texts}
 use Rattle.papergrid_draw.proofs.spanned.set_row.Goals as goal
 
 pub set-requires : goal.set-requires
-set-requires g c =
-    let parts = c.args.frame.now.table.now in
-    let below : c.loop-col.col < length parts.widths = omega (arith, ap (λ s. s.1) c.requires.frame.shape) in
-    (parts, told_texts g.S.Cells.lines g.S.Cells.color c.args.cells.now, c.requires.frame, c.loop-col.invariant, below)
+set-requires g c = omega (arith, ap (λ s. s.1) c.args.frame.now.read.shape_is, c.loop-col.invariant.each)
 
 pub loop-col-preserved : goal.loop-col-preserved
 loop-col-preserved g c =
     let parts = c.args.frame.now.table.now in
-    let below : c.loop-col.col < length parts.widths = omega (arith, ap (λ s. s.1) c.requires.frame.shape) in
-    c.set.ensures parts (told_texts g.S.Cells.lines g.S.Cells.color c.args.cells.now) c.requires.frame c.loop-col.invariant c.requires.tiled c.requires.row_in below
+    let below : c.loop-col.col < length parts.widths = omega (arith, ap (λ s. s.1) c.args.frame.now.read.shape_is) in
+    c.set.ensures (told_texts g.S.Cells.lines g.S.Cells.color c.args.cells.now) c.loop-col.invariant c.requires.row_in below
     c.in_ok-cell.ensures c.color.ensures
 
 pub returns : goal.returns
 returns g c =
     let parts = c.args.frame.now.table.now in
-    let last : c.loop-col.col ≡ length parts.widths = omega (arith, ap (λ s. s.1) c.requires.frame.shape) in
+    let last : c.loop-col.col ≡ length parts.widths = omega (arith, ap (λ s. s.1) c.args.frame.now.read.shape_is) in
     subst (λ n. AreSlotsSet (drawn_of g.S.Cells.lines g.S.Cells.color parts c.args.cells.now) c.args.row n c.loop-col.slots) last c.loop-col.invariant

@@ -23,42 +23,42 @@ past-first : (col : ℕ) → (col ≡ 0 → ⊥) → 0 < col
 past-first col other = omega (arith, other)
 
 pub returns-then-reaches_row : goal.returns-then-reaches_row
-returns-then-reaches_row g c = λ parts texts frame are tiled row_in col_in.
+returns-then-reaches_row g c = λ texts are row_in col_in.
     let position = c.args.position in
     let slot = c.index-slots-position.result in
     let above : Position = (get_or c.args.slots.now position.col slot).owner in
     let reach = c.reaches_row.ensures.0 c.if-reaches_row.true in
-    found-above (drawing_of parts texts) tiled position.row position.col c.args.slots.now (row_in, col_in) are slot reach.0
-    (subst (reaches_down above position.row) frame.config reach.1)
+    found-above (drawing_of c.args.self.now.table.now texts) c.args.self.now.tiled position.row position.col c.args.slots.now (row_in, col_in) are slot reach.0
+    (subst (reaches_down above position.row) c.args.self.now.read.config_is reach.1)
 
 pub returns-then-position-eq0 : goal.returns-then-position-eq0
-returns-then-position-eq0 g c = λ parts texts frame are tiled row_in col_in.
+returns-then-position-eq0 g c = λ texts are row_in col_in.
     let position = c.args.position in
     let upper = c.index-slots-position.result in
     let above : Position = (get_or c.args.slots.now position.col upper).owner in
-    found-itself (drawing_of parts texts) tiled position.row position.col c.args.slots.now (row_in, col_in) are upper upper
-    (λ reach. let yes = c.reaches_row.ensures.1 (reach.0, subst (reaches_down above position.row) (sym frame.config) reach.1) in
+    found-itself (drawing_of c.args.self.now.table.now texts) c.args.self.now.tiled position.row position.col c.args.slots.now (row_in, col_in) are upper upper
+    (λ reach. let yes = c.reaches_row.ensures.1 (reach.0, subst (reaches_down above position.row) (sym c.args.self.now.read.config_is) reach.1) in
     false≢true (sym c.if-reaches_row.false ∙ yes))
     (λ begun reach. absurd (first-not_past position.col c.if-position-eq0.true begun))
 
 pub returns-then-reaches_column : goal.returns-then-reaches_column
-returns-then-reaches_column g c = λ parts texts frame are tiled row_in col_in.
+returns-then-reaches_column g c = λ texts are row_in col_in.
     let position = c.args.position in
     let slot = c.index-slots-position-2.result in
     let left : Position = (get_or c.args.slots.now (position.col - 1) slot).owner in
     let reach = c.reaches_column.ensures.0 c.if-reaches_column.true in
-    found-left (drawing_of parts texts) tiled position.row position.col c.args.slots.now (row_in, col_in) are slot (past-first position.col c.if-position-eq0.false)
-    (subst (reaches_right left position.col) frame.config reach.2)
+    found-left (drawing_of c.args.self.now.table.now texts) c.args.self.now.tiled position.row position.col c.args.slots.now (row_in, col_in) are slot (past-first position.col c.if-position-eq0.false)
+    (subst (reaches_right left position.col) c.args.self.now.read.config_is reach.2)
 
 pub returns : goal.returns
-returns g c = λ parts texts frame are tiled row_in col_in.
+returns g c = λ texts are row_in col_in.
     let position = c.args.position in
     let upper = c.index-slots-position.result in
     let slot = c.index-slots-position-2.result in
     let above : Position = (get_or c.args.slots.now position.col upper).owner in
     let left : Position = (get_or c.args.slots.now (position.col - 1) slot).owner in
-    found-itself (drawing_of parts texts) tiled position.row position.col c.args.slots.now (row_in, col_in) are upper slot
-    (λ reach. let yes = c.reaches_row.ensures.1 (reach.0, subst (reaches_down above position.row) (sym frame.config) reach.1) in
+    found-itself (drawing_of c.args.self.now.table.now texts) c.args.self.now.tiled position.row position.col c.args.slots.now (row_in, col_in) are upper slot
+    (λ reach. let yes = c.reaches_row.ensures.1 (reach.0, subst (reaches_down above position.row) (sym c.args.self.now.read.config_is) reach.1) in
     false≢true (sym c.if-reaches_row.false ∙ yes))
-    (λ begun reach. let yes = c.reaches_column.ensures.1 (reach.0, reach.1, subst (reaches_right left position.col) (sym frame.config) reach.2) in
+    (λ begun reach. let yes = c.reaches_column.ensures.1 (reach.0, reach.1, subst (reaches_right left position.col) (sym c.args.self.now.read.config_is) reach.2) in
     false≢true (sym c.if-reaches_column.false ∙ yes))

@@ -6,21 +6,21 @@ use Rattle.papergrid_draw.specs.Characters.{crossing}
 use Rattle.papergrid_draw.specs.Drawn.{OnLine, draws_vertical, stands_over_crossing}
 use Rattle.papergrid_draw.specs.ForProofs.Pages.{drawing_of}
 use Rattle.papergrid_draw.specs.ForProofs.Pens.{AddsStretches}
-use Rattle.papergrid_draw.proofs.LineLemmas.{frame-columns, frame-line}
-use Rattle.papergrid_draw.proofs.RuleLemmas.{crossing-asked, crossing-none, crossing-some}
+use Rattle.papergrid_draw.proofs.LineLemmas.{frame-line}
+use Rattle.papergrid_draw.proofs.RuleLemmas.{column-in, crossing-asked, crossing-none, crossing-some}
 use Rattle.papergrid_draw.proofs.StretchLemmas.{AddsStretches-nil}
 use Rattle.papergrid_draw.proofs.page.Frame.push_crossing.Goals as goal
 use Rattle.papergrid_draw.proofs.page.Frame.push_crossing.Goals.{else-is_over, then-is_over, then-not-index-via-else-not-index+then-hidden, then-not-index-via-then-not-index}
 
 pub returns-then-not-index : goal.returns-then-not-index
-returns-then-not-index c = λ parts texts read tiled inside owner.
-    let d = drawing_of parts texts in
+returns-then-not-index c = λ texts owner.
+    let d = drawing_of c.args.self.now.table.now texts in
     let row = c.args.position.row in
     let col = c.args.position.col in
-    let wide = frame-columns read in
-    let within : col ≤ c.args.self.now.shape.1 = omega (arith, inside, wide) in
-    let line = frame-line read texts col c.index.result.now within c.index.ensures in
-    let over = crossing-asked parts c.args.self.now read row c.args.owner c.is_over.result c.is_over.ensures texts tiled col inside owner in
+    let inside = column-in c.args.self.now col c.requires in
+    let within : col ≤ c.args.self.now.shape.1 = omega (arith, c.requires) in
+    let line = frame-line c.args.self.now texts col c.index.result.now within c.index.ensures in
+    let over = crossing-asked c.args.self.now row c.args.owner c.is_over.result c.is_over.ensures texts col inside owner in
     let hidden : c.if-is_over.hidden ≡ (c.is_over.result && nat_lt c.args.owner.col col) = elim c.if-is_over.branch [
       | then-is_over w ↦ w.hidden-is ∙ ap (λ asked. asked && nat_lt c.args.owner.col col) (sym w.if-is_over.true)
       | else-is_over w ↦ w.hidden-is ∙ w.if-is_over.false ∙ ap (λ asked. asked && nat_lt c.args.owner.col col) (sym w.if-is_over.false)
@@ -32,18 +32,18 @@ returns-then-not-index c = λ parts texts read tiled inside owner.
     subst (AddsStretches _ _ _ _) (crossing-none d row col none) (AddsStretches-nil _ _)
 
 pub returns : goal.returns
-returns c = on_ok_weaker c.push_crossing.result (λ added parts texts read tiled inside owner.
-    let d = drawing_of parts texts in
+returns c = on_ok_weaker c.push_crossing.result (λ added texts owner.
+    let d = drawing_of c.args.self.now.table.now texts in
     let row = c.args.position.row in
     let col = c.args.position.col in
-    let wide = frame-columns read in
-    let within : col ≤ c.args.self.now.shape.1 = omega (arith, inside, wide) in
-    let line = frame-line read texts col c.index.result.now within c.index.ensures in
-    let over = crossing-asked parts c.args.self.now read row c.args.owner c.is_over.result c.is_over.ensures texts tiled col inside owner in
+    let inside = column-in c.args.self.now col c.requires in
+    let within : col ≤ c.args.self.now.shape.1 = omega (arith, c.requires) in
+    let line = frame-line c.args.self.now texts col c.index.result.now within c.index.ensures in
+    let over = crossing-asked c.args.self.now row c.args.owner c.is_over.result c.is_over.ensures texts col inside owner in
     let hidden : c.if-is_over.hidden ≡ (c.is_over.result && nat_lt c.args.owner.col col) = elim c.if-is_over.branch [
       | then-is_over w ↦ w.hidden-is ∙ ap (λ asked. asked && nat_lt c.args.owner.col col) (sym w.if-is_over.true)
       | else-is_over w ↦ w.hidden-is ∙ w.if-is_over.false ∙ ap (λ asked. asked && nat_lt c.args.owner.col col) (sym w.if-is_over.false)
     ] in
-    subst (AddsStretches _ _ _ _) ((λ i. OnLine (crossing (read.config i) (read.shape i) c.args.position) ∷ [])
+    subst (AddsStretches _ _ _ _) ((λ i. OnLine (crossing (c.args.self.now.read.config_is i) (c.args.self.now.read.shape_is i) c.args.position) ∷ [])
     ∙ crossing-some d row col (and_from _ _ (line ∙ c.if-not-index.false) (not_from_false _ (over ∙ sym hidden ∙ c.if-hidden.false)))) added)
     c.push_crossing.ensures
