@@ -380,13 +380,15 @@ impl<'a> Frame<'a> {
             (position.col < d.shape.1) × (draws_horizontal d position.row ≡ true)
             × (position.row < d.shape.0 →
             IsSlot d position.row position.col (row_start d position.row) slot.old) }
-        ensures adds { OnOk result ((texts : Texts) → let d = drawing_of self.now.table.now texts in
+        ensures adds { OnOk result ((texts : Texts) →
+            let d = drawing_of self.now.table.now texts in
             (position.row < d.shape.0 →
             IsSlot d position.row position.col (row_start d position.row) slot.old) →
             AddsStretches (option_copied rule.old.used) (option_copied rule.new.used)
             (string_bytes line.old) (string_bytes line.new)
             (column_stretch d position.row position.col)) }
-        ensures kept { OnOk result ((texts : Texts) → let d = drawing_of self.now.table.now texts in
+        ensures kept { OnOk result ((texts : Texts) →
+            let d = drawing_of self.now.table.now texts in
             position.row < d.shape.0 → draws_horizontal d position.row ≡ true →
             IsSlot d position.row position.col (row_start d position.row) slot.old →
             IsSlot d position.row position.col (text_start d position.row) slot.new) }
@@ -410,14 +412,16 @@ impl<'a> Frame<'a> {
             (position.col < d.shape.1) × (draws_horizontal d position.row ≡ true)
             × (position.row < d.shape.0 →
             IsSlot d position.row position.col (row_start d position.row) slot.old) }
-        ensures adds { OnOk result ((texts : Texts) → let d = drawing_of self.now.table.now texts in
+        ensures adds { OnOk result ((texts : Texts) →
+            let d = drawing_of self.now.table.now texts in
             (position.row < d.shape.0 →
             IsSlot d position.row position.col (row_start d position.row) slot.old) →
             AddsStretches (option_copied rule.old.used) (option_copied rule.new.used)
             (string_bytes line.old) (string_bytes line.new)
             (crossing_stretch d position.row position.col
             ++ column_stretch d position.row position.col)) }
-        ensures kept { OnOk result ((texts : Texts) → let d = drawing_of self.now.table.now texts in
+        ensures kept { OnOk result ((texts : Texts) →
+            let d = drawing_of self.now.table.now texts in
             position.row < d.shape.0 → draws_horizontal d position.row ≡ true →
             IsSlot d position.row position.col (row_start d position.row) slot.old →
             IsSlot d position.row position.col (text_start d position.row) slot.new) }
@@ -437,10 +441,12 @@ impl<'a> Frame<'a> {
             (length slots.old ≡ d.shape.1) × (draws_horizontal d row ≡ true)
             × (row < d.shape.0 → AreSlots d row (λ _. row_start d row) slots.old) }
         ensures bytes { OnOk result ((texts : Texts) →
-            let d = drawing_of self.now.table.now texts in row ≤ d.shape.0 →
+            let d = drawing_of self.now.table.now texts in
+            row ≤ d.shape.0 →
             (row < d.shape.0 → AreSlots d row (λ _. row_start d row) slots.old) →
             string_bytes line.new ≡ string_bytes line.old ++ rule_bytes (rule_line d row)) }
-        ensures kept { OnOk result ((texts : Texts) → let d = drawing_of self.now.table.now texts in
+        ensures kept { OnOk result ((texts : Texts) →
+            let d = drawing_of self.now.table.now texts in
             row < d.shape.0 → draws_horizontal d row ≡ true →
             AreSlots d row (λ _. row_start d row) slots.old →
             AreSlots d row (λ _. text_start d row) slots.new) }

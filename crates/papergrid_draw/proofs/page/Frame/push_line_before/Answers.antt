@@ -19,7 +19,7 @@ returns-in-Some c =
 
 pub returns-then-not-index : goal.returns-then-not-index
 returns-then-not-index c = λ texts same.
-    let within : c.args.position.col ≤ c.args.self.now.shape.1 = (c.requires) in
+    let within : c.args.position.col ≤ c.args.self.now.shape.1 = c.requires in
     let none = frame-line c.args.self.now texts c.args.position.col c.index.result.now within c.index.ensures ∙ c.if-not-index.true in
     vertical-none (drawing_of c.args.self.now.table.now texts) c.args.position.row c.args.position.col c.args.k (string_bytes c.args.line.now) none
 
@@ -27,7 +27,7 @@ pub returns : goal.returns
 returns c =
     let position = c.args.position in
     on_ok_weaker c.push_vertical.result (λ added texts same.
-    let within : position.col ≤ c.args.self.now.shape.1 = (c.requires) in
+    let within : position.col ≤ c.args.self.now.shape.1 = c.requires in
     let some = frame-line c.args.self.now texts position.col c.index.result.now within c.index.ensures ∙ c.if-not-index.false in
     added
     ∙ (λ i. string_bytes c.args.line.now ++ piece_bytes (vertical (c.args.self.now.read.config_is i) (c.args.self.now.read.shape_is i) position (same i) c.args.k))
