@@ -15,7 +15,7 @@ ghost use Rattle.papergrid_draw.specs.Drawings.{layout_of};
 ghost use Rattle.papergrid_draw.specs.Drawn.{column_pieces, column_stretch, crossing_stretch, draws_horizontal, owner_at, rule_line, text_line, vertical_pieces};
 ghost use Rattle.papergrid_draw.specs.Tiles.{IsTiled};
 ghost use Rattle.papergrid_draw.specs.ForProofs.Tiles.{IsTiled-prop};
-ghost use Rattle.papergrid_draw.specs.ForProofs.Pages.{AreSlotsSet, AreSlots, AreVerticals, HaveCharacters, IsFrame, IsSlot, Texts, character_bytes, drawing_of, row_start, text_start};
+ghost use Rattle.papergrid_draw.specs.ForProofs.Pages.{AreSlotsSet, AreSlots, AreVerticals, HaveCharacters, IsBeforeRule, IsFrame, IsSlot, Texts, character_bytes, drawing_of, row_start, text_start};
 ghost use Rattle.papergrid_draw.specs.ForProofs.Pens.{AddsStretches, stretches_over};
 
 use crate::block::Block;
@@ -376,10 +376,8 @@ impl<'a> Frame<'a> {
         position: Position,
         line: &mut String,
     ) -> Result<(), AllocError>
-        requires { (texts : Texts) × let d = drawing_of self.now.table.now texts in
-            (position.col < d.shape.1) × (draws_horizontal d position.row ≡ true)
-            × (position.row < d.shape.0 →
-            IsSlot d position.row position.col (row_start d position.row) slot.old) }
+        requires { (texts : Texts)
+            × IsBeforeRule (drawing_of self.now.table.now texts) position slot.old }
         ensures adds { OnOk result ((texts : Texts) →
             let d = drawing_of self.now.table.now texts in
             (position.row < d.shape.0 →
@@ -408,10 +406,8 @@ impl<'a> Frame<'a> {
         position: Position,
         line: &mut String,
     ) -> Result<(), AllocError>
-        requires { (texts : Texts) × let d = drawing_of self.now.table.now texts in
-            (position.col < d.shape.1) × (draws_horizontal d position.row ≡ true)
-            × (position.row < d.shape.0 →
-            IsSlot d position.row position.col (row_start d position.row) slot.old) }
+        requires { (texts : Texts)
+            × IsBeforeRule (drawing_of self.now.table.now texts) position slot.old }
         ensures adds { OnOk result ((texts : Texts) →
             let d = drawing_of self.now.table.now texts in
             (position.row < d.shape.0 →

@@ -1,5 +1,5 @@
 -- A table while it is drawn: what stands in each column of a row.
-use Rattle.std.specs.Prelude.{◌≡◌, ◌+◌, ◌-◌, ◌==◌, ◌^◌, ◌<◌, ◌≤◌, ℕ, Bool, List, [], Option, Some, None, if◌then◌else◌, length, slice_get, slice_index, slice_index_or}
+use Rattle.std.specs.Prelude.{◌≡◌, ◌+◌, ◌-◌, ◌==◌, ◌^◌, ◌<◌, ◌≤◌, ℕ, Bool, List, [], Option, Some, None, if◌then◌else◌, length, slice_get, slice_index, slice_index_or, true}
 use Rattle.papergrid_values.specs.declared.direction.Direction.TheVariants.{Rows}
 use Rattle.papergrid_values.specs.declared.position.Position.{Position}
 use Rattle.papergrid_config.specs.declared.spanned.SpannedConfig.{SpannedConfig}
@@ -8,7 +8,7 @@ use Rattle.papergrid_layout.specs.Tables.{TableParts, view_of}
 use Rattle.papergrid_draw.specs.Bytes.{pieces_bytes}
 use Rattle.papergrid_draw.specs.Contents.{block_at}
 use Rattle.papergrid_draw.specs.Drawings.{Drawing, layout_of}
-use Rattle.papergrid_draw.specs.Drawn.{draws_vertical, owner_at, vertical_pieces}
+use Rattle.papergrid_draw.specs.Drawn.{draws_horizontal, draws_vertical, owner_at, vertical_pieces}
 use Rattle.papergrid_draw.specs.Pieces.{fill_text}
 use Rattle.papergrid_draw.specs.ForProofs.Looks.{IsLookedUp}
 use Rattle.papergrid_draw.specs.declared.look.Looks.{Looks}
@@ -77,6 +77,12 @@ module _ (d : Drawing) where
   -- what is kept in column c of row r, where line y comes next
   abbrev pub IsSlot : {T : Type 0} → ℕ → ℕ → ℕ → Slot T → Type 0
   IsSlot r c y slot = (o : Position) × (owner_at d r c ≡ Some o) × (slot ≡ slot_at o c y)
+
+  -- the line before the row of a position is drawn, and where there is such a row, it comes next in the column
+  pub record IsBeforeRule {T : Type 0} (p : Position) (slot : Slot T) : Type 0 where
+    pub column : p.col < d.shape.1
+    pub drawn : draws_horizontal d p.row ≡ true
+    pub kept : p.row < d.shape.0 → IsSlot p.row p.col (row_start p.row) slot
 
   -- so in each column of row r, where in column c line y c comes next
   pub record AreSlots {T : Type 0} (r : ℕ) (y : ℕ → ℕ) (slots : List (Slot T)) : Type 0 where

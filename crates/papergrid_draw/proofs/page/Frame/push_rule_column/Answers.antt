@@ -8,7 +8,7 @@ use Rattle.papergrid_draw.proofs.StretchLemmas.{AddsStretches-append}
 use Rattle.papergrid_draw.proofs.page.Frame.push_rule_column.Goals as goal
 
 pub push_crossing-requires : goal.push_crossing-requires
-push_crossing-requires g c = subst (λ n. c.args.position.col < n) (sym (frame-columns c.args.self.now)) c.requires.1.0
+push_crossing-requires g c = subst (λ n. c.args.position.col < n) (sym (frame-columns c.args.self.now)) c.requires.1.column
 
 pub push_stretch-requires : goal.push_stretch-requires
 push_stretch-requires g c = c.requires

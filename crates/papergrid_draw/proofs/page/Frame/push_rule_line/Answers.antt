@@ -45,12 +45,12 @@ push_rule_column-requires g c =
     let d = drawing_of c.args.self.now.table.now told.0 in
     let inside = column-in c.args.self.now c.loop-col.col c.loop-col-test.true in (
       told.0,
-      (
-        inside,
-        told.1.1,
-        λ below. slot-waits d c.args.row c.loop-col.col (row_start d c.args.row) (text_start d c.args.row) c.loop-col.slots
-            c.index-slots-col.result inside (c.loop-col.invariant.2 told.0 below told.1.1 (told.1.2 below)),
-      ),
+      record {
+        column = inside;
+        drawn = told.1.1;
+        kept = λ below. slot-waits d c.args.row c.loop-col.col (row_start d c.args.row) (text_start d c.args.row) c.loop-col.slots
+            c.index-slots-col.result inside (c.loop-col.invariant.2 told.0 below told.1.1 (told.1.2 below));
+      },
     )
 
 pub loop-col-preserved : goal.loop-col-preserved

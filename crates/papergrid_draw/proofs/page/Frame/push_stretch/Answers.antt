@@ -12,7 +12,7 @@ push_cell_over-requires g c =
     let told = c.requires in
     let row = c.args.position.row in
     let asked = over-so c.args.self.now row c.args.slot.now.owner c.is_over.result c.is_over.ensures c.if-is_over.true in
-    drawn-below c.args.self.now told.0 row c.args.position.col c.args.slot.now asked.0 told.1.1 (told.1.2 asked.0)
+    drawn-below c.args.self.now told.0 row c.args.position.col c.args.slot.now asked.0 told.1.drawn (told.1.kept asked.0)
 
 pub returns-then-is_over-clause-adds : goal.returns-then-is_over-clause-adds
 returns-then-is_over-clause-adds g c = on_ok_weaker c.push_cell_over.result (λ added texts kept.
@@ -22,7 +22,7 @@ returns-then-is_over-clause-adds g c = on_ok_weaker c.push_cell_over.result (λ 
     let slot = c.args.slot.now in
     let asked = over-so c.args.self.now row slot.owner c.is_over.result c.is_over.ensures c.if-is_over.true in
     let over : stands_over d row col ≡ true =
-    over-asked c.args.self.now row slot.owner c.is_over.result c.is_over.ensures texts col c.requires.1.0
+    over-asked c.args.self.now row slot.owner c.is_over.result c.is_over.ensures texts col c.requires.1.column
     (λ below. slot-owner d row col (row_start d row) slot (kept below)) ∙ c.if-is_over.true in
     subst (AddsStretches _ _ _ _) (stretch-over d row col slot over (kept asked.0)) added)
     c.push_cell_over.ensures.adds
@@ -42,7 +42,7 @@ returns-clause-adds g c = on_ok_weaker c.push_segment.result (λ added texts kep
     let col = c.args.position.col in
     let slot = c.args.slot.now in
     let free : stands_over d row col ≡ false =
-    over-asked c.args.self.now row slot.owner c.is_over.result c.is_over.ensures texts col c.requires.1.0
+    over-asked c.args.self.now row slot.owner c.is_over.result c.is_over.ensures texts col c.requires.1.column
     (λ below. slot-owner d row col (row_start d row) slot (kept below)) ∙ c.if-is_over.false in
     subst (AddsStretches _ _ _ _) ((λ i. map OnLine (segment (c.args.self.now.read.config_is i) (c.args.self.now.read.shape_is i) c.args.position (c.get_width-width.ensures i)))
     ∙ stretch-line d row col free) added)
