@@ -1,28 +1,15 @@
 -- Tables with the sizes of a dimension, and why they are not drawn.
-use Rattle.std.proofs.Common.{◌≡◌, ◌∙◌, ℕ, Err, Global, IfErr, List, Ok, Option, Result, Vec, inr, length, map, refl, subst, sym, ap}
+use Rattle.std.proofs.Common.{◌≡◌, ◌∙◌, ℕ, Global, List, Option, Vec, length, map, refl, subst, sym, ap}
 use Rattle.std.proofs.lemmas.List.{length-map}
 use Rattle.papergrid_values.specs.declared.position.Position.{Position}
 use Rattle.papergrid_config.specs.declared.spanned.SpannedConfig.{SpannedConfig}
 use Rattle.papergrid_layout.specs.Tables.{HasSizes, TableParts}
 use Rattle.papergrid_draw.specs.Drawings.{Drawing, drawn_of}
-use Rattle.papergrid_draw.specs.Faults.{IsDrawFault}
-use Rattle.papergrid_draw.specs.declared.error.DrawError.{DrawError}
 use Rattle.papergrid_draw.specs.Cells.{lines_at, text_lines}
-use Rattle.papergrid.specs.Sized.{IsGridFault, drawing_of_rows, parts_of, texts_at}
+use Rattle.papergrid.specs.Sized.{drawing_of_rows, parts_of, texts_at}
 use Rattle.papergrid.specs.TextRows.{IsTextDrawing}
 use Rattle.papergrid.specs.declared.held.HeldTable.{HeldTable}
 use Rattle.papergrid.proofs.HeldLemmas.{lines_of_texts}
-
--- as any table
-as_any : {A : Type 0} (d : Drawing) (r : Result A DrawError) → IfErr r (IsDrawFault d) → IfErr r (IsGridFault d)
-as_any d (Ok x) is = tt
-as_any d (Err e) is = inr is
-
-pub grid_fault : {A C : Type 0} (lines : C → Position → List (List ℕ × ℕ)) (color : C → Position → Option (List ℕ × List ℕ))
-    (table parts : TableParts) (cells : C) (r : Result A DrawError) →
-    table ≡ parts → IfErr r (IsDrawFault (drawn_of lines color table cells)) → IfErr r (IsGridFault (drawn_of lines color parts cells))
-grid_fault lines color table parts cells r same is =
-    as_any (drawn_of lines color parts cells) r (subst (λ (t : TableParts). IfErr r (IsDrawFault (drawn_of lines color t cells))) same is)
 
 -- what holds of a table and its drawing holds of those with equal counts, rows and colours
 pub drawn_same : {T C K : Type 0} (lines : T → List (List ℕ × ℕ)) (texts : K → List ℕ × List ℕ) (color_at : C → Position → Option K)
@@ -89,10 +76,6 @@ held_drawing {T = T} {C = C} text texts color_at config widths heights tells col
     let Is : Drawing → Type 0 = IsTextDrawing text tells columns config widths heights (texts_at texts color_at colors) in
     subst (λ n. Is (drawn n lent)) (sym s) (subst (λ k. Is (drawn (length held.rows.items, held.columns) k)) (sym l)
     (text_drawing text texts color_at config widths heights tells (length held.rows.items) held.columns columns rows held.rows.items colors refl wide r told))
-
--- what holds of the error that a `?` returns holds of the result
-pub at_exit : {A E : Type 0} (r : Result A E) (x : E) (Q : E → Type 0) → (y : E) × (r ≡ Err y) × (y ≡ x) → Q x → IfErr r Q
-at_exit r x Q (y, is, same) holds = subst (λ s. IfErr s Q) (sym is) (subst Q (sym same) holds)
 
 -- sizes for rows that are told are sizes for those that are held
 pub sized_rows : {A B : Type 0} (has : ℕ → Type 0) (held : A → B) (rows : List A) (count : ℕ) →

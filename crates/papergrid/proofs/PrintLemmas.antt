@@ -1,34 +1,77 @@
 -- What a printer leaves, by what is drawn.
-use Rattle.std.proofs.Common.{◌≢◌, Bool, ℕ, Err, IfErr, List, Ok, Option, Result, inl, inr, refl}
-use Rattle.std.specs.Prelude.{⊤}
-use Rattle.papergrid_draw.specs.Deliveries.{IsLeftOff}
-use Rattle.papergrid_draw.specs.Drawings.{Drawing}
+use Rattle.std.proofs.Common.{◌≡◌, ◌≢◌, ◌∙◌, ◌++◌, Bool, ℕ, [], Err, Global, List, Ok, Option, Result, ap, inl, inr, refl, string_bytes}
+use Rattle.std.specs.Prelude.{String}
+use Rattle.std.proofs.lemmas.Fmt.{contents_after_writes}
+use Rattle.papergrid_values.specs.declared.position.Position.{Position}
+use Rattle.papergrid_layout.specs.Tables.{IsTable, TableParts}
+use Rattle.papergrid_tracks.specs.declared.error.LayoutError.{LayoutError}
+use Rattle.papergrid_tracks.specs.declared.error.LayoutError.TheVariants as layout_errors
+use Rattle.papergrid_text.specs.Transfer.{IsTaken}
+use Rattle.papergrid_draw.specs.Deliveries.{Draws, IsStringOf}
+use Rattle.papergrid_draw.specs.Drawings.{Drawing, drawn_of}
+use Rattle.papergrid_draw.specs.Errors.{draw_error_of}
+use Rattle.papergrid_draw.specs.ForProofs.Sinks.{IsBroken}
 use Rattle.papergrid_draw.specs.Margins.{printed}
-use Rattle.papergrid_draw.specs.Sinks.{IsCutOff, IsRefusal, IsUndrawn}
+use Rattle.papergrid_draw.specs.Sinks.{IsRefusal, WritesPicture}
 use Rattle.papergrid_draw.specs.declared.error.DrawError.{DrawError}
 use Rattle.papergrid_draw.specs.declared.error.DrawError.TheVariants.{Write}
-use Rattle.papergrid.specs.Printed.{IsPrintFault, IsUnprinted}
-use Rattle.papergrid.specs.Sized.{IsGridFault}
+use Rattle.papergrid_draw.proofs.DeliveryLemmas.{string-drawn}
+use Rattle.papergrid_draw.proofs.SinkLemmas.{sink-left, taken-calls}
+use Rattle.papergrid.specs.Printed.{IsPrintFault, IsUnprinted, Prints, PrintsString}
 
-module _ (IsDrawn : Drawing → Type 0) where
-  -- of a drawing of the table
-  module _ (d : Drawing) (is : IsDrawn d) {A : Type 0} where
-    pub print-fault : (result : Result A DrawError) → IfErr result (IsGridFault d) → IfErr result (λ e. IsRefusal e → IsPrintFault IsDrawn e)
-    print-fault (Ok x) fault = tt
-    print-fault (Err e) fault = λ named. (d, is, fault)
-
-    pub print-undrawn : {W : Type 0} (contents : W → Option (List ℕ)) (has_failed has_stalled : W → Bool) (old new : W) (result : Result A DrawError) →
-        IfErr result (IsGridFault d) → IfErr result (IsCutOff contents has_failed has_stalled old (printed d) new) →
-        IfErr result (IsUndrawn contents has_failed has_stalled IsDrawn (IsPrintFault IsDrawn) printed old new)
-    print-undrawn contents has_failed has_stalled old new (Ok x) fault left = tt
-    print-undrawn contents has_failed has_stalled old new (Err e) fault left = record { fault = λ named. (d, is, fault); nothing = left.nothing; left = inr (d, is, left) }
-
-    pub print-left : {W : Type 0} (gives : W → List ℕ → W → Type 0) (old new : W) (result : Result A DrawError) →
-        IfErr result (IsGridFault d) → IfErr result (IsLeftOff gives (λ _ _ _. ⊤) old (printed d) new) → IfErr result (IsUnprinted IsDrawn gives old new)
-    print-left gives old new (Ok x) fault left = tt
-    print-left gives old new (Err e) fault left = record { fault = λ named. (d, is, fault); left = inr (d, is, left) }
-
+-- by the relations of texts that a writer takes and of one that breaks off
+module _ {W : Type 0} (takes breaks : W → List ℕ → W → Type 0) where
   -- there is no drawing yet
-  pub print-none : {W : Type 0} (gives : W → List ℕ → W → Type 0) (w : W) (e : DrawError) → e ≢ Write → (IsRefusal e → IsPrintFault IsDrawn e) →
-      IsUnprinted IsDrawn gives w w e
-  print-none gives w e works fault = record { fault = fault; left = inl (works, refl) }
+  pub prints-none : (IsDrawn : Drawing → Type 0) (w : W) (e : DrawError) → e ≢ Write → (IsRefusal e → IsPrintFault IsDrawn e) → IsUnprinted IsDrawn takes breaks w w e
+  prints-none IsDrawn w e works fault = record { fault = fault; left = inl (works, refl) }
+
+  -- this one is drawn
+  pub prints-so : (d : Drawing) {A : Type 0} (old new : W) (result : Result A DrawError) → Draws takes breaks d old new (printed d) result →
+      Prints (λ other. other ≡ d) takes breaks old new result
+  prints-so d old new (Ok x) draws = (d, refl, draws.picture)
+  prints-so d old new (Err e) draws = record { fault = λ named. (d, refl, inr draws.fault); left = inr (d, refl, draws.left) }
+
+  -- what follows of the drawing
+  pub prints-also : (IsDrawn IsSo : Drawing → Type 0) → ((d : Drawing) → IsDrawn d → IsSo d) → {A : Type 0} (old new : W) (result : Result A DrawError) →
+      Prints IsDrawn takes breaks old new result → Prints IsSo takes breaks old new result
+  prints-also IsDrawn IsSo also old new (Ok x) p = (p.0, also p.0 p.1, p.2)
+  prints-also IsDrawn IsSo also old new (Err e) p = record {
+    fault = λ named. let fault = p.fault named in (fault.0, also fault.0 fault.1, fault.2);
+    left = elim p.left [ inl same ↦ inl same | inr so ↦ inr (so.0, also so.0 so.1, so.2) ];
+  }
+
+-- the totals of a table are too large, so there is none
+pub sizes-refused : {C : Type 0} (lines : C → Position → List (List ℕ × ℕ)) (color : C → Position → Option (List ℕ × List ℕ)) (parts : TableParts) (cells : C) (e : LayoutError) →
+    IsTable parts (Err e) → IsRefusal (draw_error_of e) → IsPrintFault (λ d. d ≡ drawn_of lines color parts cells) (draw_error_of e)
+sizes-refused lines color parts cells (layout_errors.OutOfTable p) is named = absurd (let never : layout_errors.OutOfTable p ≡ layout_errors.TooLarge = is.0 in cc never)
+sizes-refused lines color parts cells layout_errors.TooLarge is named = (drawn_of lines color parts cells, refl, inl (refl, is.1))
+sizes-refused lines color parts cells (layout_errors.Memory e) is named = absurd named
+
+-- a sink, by what it tells of itself
+pub sink-prints : (IsDrawn : Drawing → Type 0) {W : Type 0} (contents : W → Option (List ℕ)) (has_failed has_stalled : W → Bool) {A : Type 0} (old new : W) (result : Result A DrawError) →
+    Prints IsDrawn (IsTaken contents has_failed has_stalled) (IsBroken contents has_failed has_stalled) old new result →
+    WritesPicture contents has_failed has_stalled IsDrawn (IsPrintFault IsDrawn) printed old new result
+sink-prints IsDrawn contents has_failed has_stalled old new (Ok x) p = (p.0, p.1, taken-calls contents has_failed has_stalled old (printed p.0) new p.2)
+sink-prints IsDrawn contents has_failed has_stalled {A = A} old new (Err e) p = record {
+  fault = p.fault;
+  nothing = λ named. elim p.left [
+    | inl same ↦ same.1
+    | inr so ↦ (sink-left contents has_failed has_stalled {A = A} old new (printed so.0) (Err e) so.2).nothing named
+  ];
+  left = elim p.left [
+    | inl same ↦ inl same
+    | inr so ↦ inr (so.0, so.1, sink-left contents has_failed has_stalled {A = A} old new (printed so.0) (Err e) so.2)
+  ];
+}
+
+-- a string, which was empty
+pub string-prints : (IsDrawn : Drawing → Type 0) (breaks : String Global → List ℕ → String Global → Type 0) {A : Type 0} (empty text : String Global) → string_bytes empty ≡ [] →
+    (drawn : Result A DrawError) → Prints IsDrawn (λ before bytes after. string_bytes after ≡ string_bytes before ++ bytes) breaks empty text drawn →
+    (result : Result (String Global) DrawError) → IsStringOf text drawn result → PrintsString IsDrawn result
+string-prints IsDrawn breaks {A = A} empty text none (Ok x) p result is =
+    string-drawn {A = A} text (λ string. (d : Drawing) × IsDrawn d × (string_bytes string ≡ printed d)) (λ e. (IsRefusal e → IsPrintFault IsDrawn e) × (e ≢ Write)) (Ok x) result is
+    (p.0, p.1, contents_after_writes (λ before bytes after. string_bytes after ≡ string_bytes before ++ bytes) string_bytes (λ before bytes after so. so) empty (printed p.0) text p.2 ∙ ap (λ l. l ++ printed p.0) none)
+    tt (λ error. (λ named. absurd named, λ write. cc write))
+string-prints IsDrawn breaks {A = A} empty text none (Err e) p result is =
+    string-drawn {A = A} text (λ string. (d : Drawing) × IsDrawn d × (string_bytes string ≡ printed d)) (λ e. (IsRefusal e → IsPrintFault IsDrawn e) × (e ≢ Write)) (Err e) result is
+    tt (λ works. (p.fault, works)) (λ error. (λ named. absurd named, λ write. cc write))

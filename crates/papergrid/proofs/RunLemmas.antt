@@ -1,6 +1,6 @@
 -- What runs write, and how they end.
-use Rattle.std.proofs.Common.{◌≡◌, ◌≢◌, ◌⊎◌, ◌∙◌, ℕ, Bool, List, Option, Result, Vec, Global, Ok, Err, ap, inl, inr, refl, subst, sym}
-use Rattle.std.specs.Prelude.{◌↔◌, IfErr, IfOk, IsErrOf, OnOk, take}
+use Rattle.std.proofs.Common.{◌≡◌, ◌≢◌, ◌∙◌, ℕ, Bool, List, Option, Result, Vec, Global, Ok, Err, ap, inl, inr, refl, subst, sym}
+use Rattle.std.specs.Prelude.{◌↔◌, ⊤, IfErr, IfOk, IsErrOf, OnOk, take}
 use Rattle.std.specs.Io.KnownBytes.{Appends}
 use Rattle.papergrid_config.specs.declared.spanned.SpannedConfig.{SpannedConfig}
 use Rattle.papergrid_layout.specs.declared.sizing.Sizing.{Sizing}
@@ -18,39 +18,17 @@ use Rattle.papergrid_script.specs.declared.reading.RunFault.{RunFault}
 use Rattle.papergrid_script.specs.declared.reading.RunFault.TheVariants as run_faults
 use Rattle.papergrid.specs.Pictures.{IsPictureOf, IsPictureRun, IsTablePicture, refusal_line}
 use Rattle.papergrid_draw.specs.Pictures.{IsDrawingWith, IsFaultWith}
-use Rattle.papergrid.specs.ForProofs.Drawn.{IsBrokenOff, Runs}
-use Rattle.papergrid_text.specs.Transfer.{HasEnded, IsSteady, IsTaken}
+use Rattle.papergrid_script.specs.Writing.{IsBrokenOff, WritesOutput}
+use Rattle.papergrid_script.proofs.RunLemmas.{runs-also}
+use Rattle.papergrid_text.specs.Transfer.{IsTaken}
 use Rattle.papergrid_draw.specs.Sinks.{IsRefusal, IsUndrawn}
 use Rattle.papergrid_draw.proofs.SinkLemmas.{undrawn-beginning, undrawn-steady, undrawn-write}
 
+-- something is written at any end
+abbrev Any : RunEnd → Type 0
+Any end = ⊤
+
 module _ {W : Type 0} (contents : W → Option (List ℕ)) (has_failed has_stalled : W → Bool) where
-  -- a run whose output is so, where another way to say it follows
-  pub runs-also : (IsSo IsAlso : RunEnd → List ℕ → Type 0) → ((end : RunEnd) (output : List ℕ) → IsSo end output → IsAlso end output) → (old new : W) (result : Result RunEnd RunFault) →
-      Runs contents has_failed has_stalled IsSo old new result → Runs contents has_failed has_stalled IsAlso old new result
-  runs-also IsSo IsAlso follows old new (Ok end) so = (so.0, follows end so.0 so.1, so.2)
-  runs-also IsSo IsAlso follows old new (Err fault) so = record {
-    not_read = so.not_read;
-    beginning = elim so.beginning [
-      | inl same ↦ inl same
-      | inr begun ↦ inr (begun.0, (begun.1.0, follows begun.0 begun.1.0 begun.1.1, begun.1.2))
-    ];
-    write = so.write;
-    steady = so.steady;
-  }
-
-  -- where it came to its end, no write failed or took nothing
-  pub runs-over : (IsSo : RunEnd → List ℕ → Type 0) (old new : W) (result : Result RunEnd RunFault) → Runs contents has_failed has_stalled IsSo old new result →
-      OnOk result (IsSteady contents has_failed has_stalled old new)
-  runs-over IsSo old new (Ok end) so = (so.2.works, so.2.moves)
-  runs-over IsSo old new (Err fault) so = tt
-
-  -- where it broke off, only a write that failed can have ended the writer
-  pub runs-broken : (IsSo : RunEnd → List ℕ → Type 0) (old new : W) (result : Result RunEnd RunFault) → Runs contents has_failed has_stalled IsSo old new result →
-      IfErr result (λ fault. (fault ≢ run_faults.Read) × (fault ≡ run_faults.Write → HasEnded contents has_failed has_stalled old new)
-      × ((fault ≡ run_faults.Write) ⊎ IsSteady contents has_failed has_stalled old new))
-  runs-broken IsSo old new (Ok end) so = tt
-  runs-broken IsSo old new (Err fault) so = (so.not_read, so.write, so.steady)
-
   module _ (sizing : Sizing) (table : Table) (config : SpannedConfig) (told : IsConfiguredBy table.settings config) where
     abbrev IsSo : Drawing → Type 0
     IsSo = IsDrawingWith table.columns table.rows sizing config
@@ -63,17 +41,17 @@ module _ {W : Type 0} (contents : W → Option (List ℕ)) (has_failed has_stall
 
     -- the picture was written
     pub run-drawn : (old new : W) → ((d : Drawing) × IsSo d × IsTaken contents has_failed has_stalled old (lined d) new) →
-        Runs contents has_failed has_stalled (IsTablePicture sizing table) old new (Ok Done)
-    run-drawn old new so = (lined so.0, (so.0, (config, told, so.1), refl), so.2)
+        WritesOutput contents has_failed has_stalled Any (IsTablePicture sizing table) old new (Ok Done)
+    run-drawn old new so = (lined so.0, (so.0, (config, told, so.1), refl), record { taken = so.2; silent = λ never. absurd (never tt) })
 
     -- it broke off
     pub run-broken : (old new : W) (e : DrawError) (fault : RunFault) → fault ≢ run_faults.Read → (fault ≡ run_faults.Write) ↔ (e ≡ draw_errors.Write) → IsSoUndrawn old new e →
-        IsBrokenOff contents has_failed has_stalled (IsTablePicture sizing table) old new fault
+        IsBrokenOff contents has_failed has_stalled Any (IsTablePicture sizing table) old new fault
     run-broken old new e fault not_read follows so = record {
       not_read = not_read;
       beginning = elim (undrawn-beginning contents has_failed has_stalled IsSo IsWhy lined old new e so) [
         | inl same ↦ inl same
-        | inr begun ↦ inr (Done, (lined begun.0, (begun.0, (config, told, begun.1), refl), begun.2))
+        | inr begun ↦ inr (Done, tt, (lined begun.0, (begun.0, (config, told, begun.1), refl), begun.2))
       ];
       write = λ is. undrawn-write contents has_failed has_stalled IsSo IsWhy lined old new e so (follows.0 is);
       steady = elim (undrawn-steady contents has_failed has_stalled IsSo IsWhy lined old new e so) [
@@ -84,10 +62,10 @@ module _ {W : Type 0} (contents : W → Option (List ℕ)) (has_failed has_stall
 
     -- it was refused, and the line that says so was written
     pub run-refused : (old between new : W) (e : DrawError) (text : List ℕ) (result : Result RunEnd RunFault) → IsRefusal e → IsSoUndrawn old between e → text ≡ refusal_line e →
-        Runs contents has_failed has_stalled (λ end output. (end ≡ Refused) × (output ≡ text)) between new result → Runs contents has_failed has_stalled (IsTablePicture sizing table) old new result
+        WritesOutput contents has_failed has_stalled Any (λ end output. (end ≡ Refused) × (output ≡ text)) between new result → WritesOutput contents has_failed has_stalled Any (IsTablePicture sizing table) old new result
     run-refused old between new e text result named so is ran =
-        subst (λ w. Runs contents has_failed has_stalled (IsTablePicture sizing table) w new result) (so.nothing named)
-        (runs-also _ _ (λ end output p. subst (λ x. IsTablePicture sizing table x output) (sym p.0) (e, named, (config, told, so.fault named), p.1 ∙ is)) between new result ran)
+        subst (λ w. WritesOutput contents has_failed has_stalled Any (IsTablePicture sizing table) w new result) (so.nothing named)
+        (runs-also contents has_failed has_stalled Any _ _ (λ end output p. subst (λ x. IsTablePicture sizing table x output) (sym p.0) (e, named, (config, told, so.fault named), p.1 ∙ is)) between new result ran)
 
 -- of an input that tells so much
 pub picture-run-of : (sizing : Sizing) (input : List ℕ) (told : Result Table ℕ) → table_of input ≡ told → (end : RunEnd) (output : List ℕ) →

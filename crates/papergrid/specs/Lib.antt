@@ -1,5 +1,4 @@
 pub mod Compact
-pub mod ForProofs
 pub mod Layouts
 pub mod Pictures
 pub mod Printed

@@ -1,5 +1,7 @@
 -- What the printers of a table leave, by what is drawn of it.
-use Rattle.std.specs.Prelude.{◌≡◌, ◌≢◌, ◌⊎◌, ⊤, ℕ, List}
+use Rattle.std.specs.Prelude.{◌≡◌, ◌≢◌, ◌⊎◌, ℕ, List, MatchResult, Result, Ok, Err, String, string_bytes}
+use Rattle.std.specs.Fmt.{WritesInCalls}
+use Rattle.std.specs.declared.alloc.Global.{Global}
 use Rattle.papergrid_draw.specs.Deliveries.{IsLeftOff}
 use Rattle.papergrid_draw.specs.Drawings.{Drawing}
 use Rattle.papergrid_draw.specs.Margins.{printed}
@@ -13,8 +15,21 @@ module _ (IsDrawn : Drawing → Type 0) where
   abbrev pub IsPrintFault : DrawError → Type 0
   IsPrintFault e = (d : Drawing) × IsDrawn d × IsGridFault d e
 
-  -- why a writer of text has no picture, and the writer after that: as it was, or with a beginning of a drawing's text. A
-  -- write fails only where there is a drawing
-  pub record IsUnprinted {W : Type 0} (gives : W → List ℕ → W → Type 0) (old new : W) (e : DrawError) : Type 0 where
-    pub fault : IsRefusal e → IsPrintFault e
-    pub left : ((e ≢ Write) × (new ≡ old)) ⊎ ((d : Drawing) × IsDrawn d × IsLeftOff gives (λ _ _ _. ⊤) old (printed d) new e)
+  -- the picture as a string, or why there is none; no write fails
+  abbrev pub PrintsString : Result (String Global) DrawError → Type 0
+  PrintsString result = MatchResult result
+      (λ string. (d : Drawing) × IsDrawn d × (string_bytes string ≡ printed d))
+      (λ e. (IsRefusal e → IsPrintFault e) × (e ≢ Write))
+
+  -- by the relations of texts that a writer takes and of one that breaks off
+  module _ {W : Type 0} (takes breaks : W → List ℕ → W → Type 0) where
+    -- why a writer has no picture, and the writer after that: as it was, or with a beginning of a drawing's text. A
+    -- write fails only where there is a drawing
+    pub record IsUnprinted (old new : W) (e : DrawError) : Type 0 where
+      pub fault : IsRefusal e → IsPrintFault e
+      pub left : ((e ≢ Write) × (new ≡ old)) ⊎ ((d : Drawing) × IsDrawn d × IsLeftOff takes breaks old (printed d) new e)
+
+    -- the picture is delivered, or why it is not
+    abbrev pub Prints : {A : Type 0} → W → W → Result A DrawError → Type 0
+    Prints old new (Ok x) = (d : Drawing) × IsDrawn d × WritesInCalls takes old (printed d) new
+    Prints old new (Err e) = IsUnprinted old new e

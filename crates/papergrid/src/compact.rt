@@ -1,21 +1,19 @@
 //! The printer of tables whose cells are all alike, of the first line of each text. Source: `grid/compact.rs`. Each call
 //! takes an allocator first, for the rows that it holds, for some numbers of each row and column and for a line.
 
-ghost use Rattle.std.specs.Prelude.{◌≡◌, ◌≢◌, IfErr, IfOk, OnOk, string_bytes};
-ghost use Rattle.std.specs.Fmt.{WritesInCalls};
-ghost use Rattle.papergrid_draw.specs.Drawings.{Drawing};
+ghost use Rattle.std.specs.Prelude.{◌≡◌, ⊤};
 ghost use Rattle.papergrid_draw.specs.Margins.{printed};
-ghost use Rattle.papergrid_text.specs.Transfer.{IsTaken};
-ghost use Rattle.papergrid_draw.specs.Sinks.{IsRefusal, IsUndrawn};
-ghost use Rattle.papergrid_draw.specs.declared.error.DrawError.TheVariants.{Write};
+ghost use Rattle.papergrid_draw.specs.Sinks.{WritesPicture};
 ghost use Rattle.papergrid_layout.specs.Tables.{HasSizes};
 ghost use Rattle.papergrid.specs.Compact.{IsCompactDrawing};
-ghost use Rattle.papergrid.specs.Printed.{IsPrintFault, IsUnprinted};
+ghost use Rattle.papergrid.specs.Printed.{IsPrintFault, Prints, PrintsString};
 ghost use Rattle.papergrid.specs.Sized.{texts_at};
 
 use crate::equal_rows::compact_table;
-use crate::printer::{string_sized, text_sized, write_sized};
+use crate::printer::print_sized;
 use papergrid_config::{CompactConfig, NoColors};
+use papergrid_draw::delivery::{Delivery, ToSink, ToText};
+use papergrid_draw::printer::string_of;
 use papergrid_draw::{AsANSIStr, DrawError};
 use papergrid_layout::Dimension;
 use papergrid_text::transfer::Sink;
@@ -105,6 +103,29 @@ where
     <<R as Records>::Iter as IntoRecords>::Cell: AsStr + Drop,
     <C as Colors>::Color: AsANSIStr,
 {
+    /// Writes the picture, by a way to deliver its lines.
+    fn print<V: Delivery<W>, W>(self, alloc: Global, writer: &mut W) -> Result<(), DrawError>
+        requires lawful { R.is_lawful self.records }
+        requires columns { HasSizes (D.has_column self.dimension.now) (R.columns self.records) }
+        ensures { let IsDrawn = IsCompactDrawing R.Iter.Cell.text (R.tells self.entry.records)
+            (R.columns self.entry.records) self.entry.config
+            (D.width_of self.entry.dimension.now)
+            (texts_at C.Color.texts C.color_at self.entry.colors.now) in
+            Prints IsDrawn V.takes V.breaks writer.old writer.new result }
+    {
+        let table = compact_table(alloc, self.records, &self.config)?;
+        let sizes = table.sizes(self.dimension);
+        let lines = table.lines(alloc, self.colors);
+        print_sized::<_, _, V, W>(
+            alloc,
+            &table.config,
+            &sizes,
+            table.held.shape(),
+            &lines,
+            writer,
+        )
+    }
+
     /// Writes the picture as text, one line at a time: nothing of a table without rows or columns. A writer of text
     /// tells nothing of a text that it did not take.
     ///
@@ -119,28 +140,13 @@ where
     pub fn build<F: fmt::Write>(self, alloc: Global, writer: &mut F) -> Result<(), DrawError>
         requires lawful { R.is_lawful self.records }
         requires columns { HasSizes (D.has_column self.dimension.now) (R.columns self.records) }
-        ensures picture { OnOk result ((d : Drawing) × IsCompactDrawing R.Iter.Cell.text
-            (R.tells self.entry.records) (R.columns self.entry.records) self.entry.config
-            (D.width_of self.entry.dimension.now)
-            (texts_at C.Color.texts C.color_at self.entry.colors.now) d
-            × WritesInCalls F.write_str_gives writer.old (printed d) writer.new) }
-        ensures unprinted { let IsDrawn = IsCompactDrawing R.Iter.Cell.text
-            (R.tells self.entry.records) (R.columns self.entry.records) self.entry.config
+        ensures { let IsDrawn = IsCompactDrawing R.Iter.Cell.text (R.tells self.entry.records)
+            (R.columns self.entry.records) self.entry.config
             (D.width_of self.entry.dimension.now)
             (texts_at C.Color.texts C.color_at self.entry.colors.now) in
-            IfErr result (IsUnprinted IsDrawn F.write_str_gives writer.old writer.new) }
+            Prints IsDrawn F.write_str_gives (λ _ _ _. ⊤) writer.old writer.new result }
     {
-        let table = compact_table(alloc, self.records, &self.config)?;
-        let sizes = table.sizes(self.dimension);
-        let lines = table.lines(alloc, self.colors);
-        text_sized(
-            alloc,
-            &table.config,
-            &sizes,
-            table.held.shape(),
-            &lines,
-            writer,
-        )
+        self.print::<ToText, F>(alloc, writer)
     }
 
     /// Writes the picture to a sink, one line at a time: nothing of a table without rows or columns.
@@ -154,29 +160,14 @@ where
     pub fn write_to<W: Sink>(self, alloc: Global, sink: &mut W) -> Result<(), DrawError>
         requires lawful { R.is_lawful self.records }
         requires columns { HasSizes (D.has_column self.dimension.now) (R.columns self.records) }
-        ensures picture { OnOk result ((d : Drawing) × IsCompactDrawing R.Iter.Cell.text
-            (R.tells self.entry.records) (R.columns self.entry.records) self.entry.config
-            (D.width_of self.entry.dimension.now)
-            (texts_at C.Color.texts C.color_at self.entry.colors.now) d
-            × IsTaken W.contents W.has_failed W.has_stalled sink.old (printed d) sink.new) }
-        ensures undrawn { let IsDrawn = IsCompactDrawing R.Iter.Cell.text
-            (R.tells self.entry.records) (R.columns self.entry.records) self.entry.config
+        ensures { let IsDrawn = IsCompactDrawing R.Iter.Cell.text (R.tells self.entry.records)
+            (R.columns self.entry.records) self.entry.config
             (D.width_of self.entry.dimension.now)
             (texts_at C.Color.texts C.color_at self.entry.colors.now) in
-            IfErr result (IsUndrawn W.contents W.has_failed W.has_stalled IsDrawn
-            (IsPrintFault IsDrawn) printed sink.old sink.new) }
+            WritesPicture W.contents W.has_failed W.has_stalled IsDrawn (IsPrintFault IsDrawn)
+            printed sink.old sink.new result }
     {
-        let table = compact_table(alloc, self.records, &self.config)?;
-        let sizes = table.sizes(self.dimension);
-        let lines = table.lines(alloc, self.colors);
-        write_sized(
-            alloc,
-            &table.config,
-            &sizes,
-            table.held.shape(),
-            &lines,
-            sink,
-        )
+        self.print::<ToSink, W>(alloc, sink)
     }
 
     /// The picture: empty for a table without rows or columns.
@@ -190,21 +181,14 @@ where
     pub fn to_string(self, alloc: Global) -> Result<String, DrawError>
         requires lawful { R.is_lawful self.records }
         requires columns { HasSizes (D.has_column self.dimension.now) (R.columns self.records) }
-        ensures picture { IfOk result (λ string. (d : Drawing) × IsCompactDrawing R.Iter.Cell.text
-            (R.tells self.entry.records) (R.columns self.entry.records) self.entry.config
-            (D.width_of self.entry.dimension.now)
-            (texts_at C.Color.texts C.color_at self.entry.colors.now) d
-            × (string_bytes string ≡ printed d)) }
-        ensures fault { let IsDrawn = IsCompactDrawing R.Iter.Cell.text
-            (R.tells self.entry.records) (R.columns self.entry.records) self.entry.config
+        ensures { let IsDrawn = IsCompactDrawing R.Iter.Cell.text (R.tells self.entry.records)
+            (R.columns self.entry.records) self.entry.config
             (D.width_of self.entry.dimension.now)
             (texts_at C.Color.texts C.color_at self.entry.colors.now) in
-            IfErr result (λ e. IsRefusal e → IsPrintFault IsDrawn e) }
-        ensures works { IfErr result (λ e. e ≢ Write) }
+            PrintsString IsDrawn result }
     {
-        let table = compact_table(alloc, self.records, &self.config)?;
-        let sizes = table.sizes(self.dimension);
-        let lines = table.lines(alloc, self.colors);
-        string_sized(alloc, &table.config, &sizes, table.held.shape(), &lines)
+        let mut text = String::new(alloc);
+        let drawn = self.build(alloc, &mut text);
+        string_of(text, drawn)
     }
 }

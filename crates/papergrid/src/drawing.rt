@@ -1,7 +1,7 @@
 //! Tables drawn: of records by a list of settings, and of a script.
 
-ghost use Rattle.std.specs.Prelude.{◌≡◌, ◌≢◌, ◌⊎◌, ◌↔◌, ℕ, All, IfErr, IfOk, List, OnErr, OnOk, false, take, true};
-ghost use Rattle.std.specs.Io.KnownBytes.{Appends};
+ghost use Rattle.std.specs.Prelude.{◌≡◌, ◌≢◌, ◌↔◌, ⊤, All, IfErr, IfOk, OnOk, false, true};
+ghost use Rattle.papergrid_script.specs.declared.answer.RunEnd.{RunEnd};
 ghost use Rattle.papergrid_values.specs.declared.position.Position.{Position};
 ghost use Rattle.papergrid_text.specs.HeldRows.{column_count};
 ghost use Rattle.papergrid_config.specs.Applied.{is_in_range};
@@ -13,9 +13,9 @@ ghost use Rattle.papergrid_draw.specs.declared.error.DrawError.TheVariants.{Memo
 ghost use Rattle.papergrid_draw.specs.Lined.{lined};
 ghost use Rattle.papergrid.specs.Pictures.{IsPictureRun, IsTablePicture, refusal_line};
 ghost use Rattle.papergrid_draw.specs.Pictures.{IsDrawingBy, IsDrawingWith, IsFaultWith, IsPictureFault, texts_held};
-ghost use Rattle.papergrid_script.specs.Runs.{HasRun, IsRunFault};
+ghost use Rattle.papergrid_script.specs.Runs.{Runs};
 ghost use Rattle.papergrid_script.specs.Scripts.{Table};
-ghost use Rattle.papergrid.specs.ForProofs.Drawn.{Runs};
+ghost use Rattle.papergrid_script.specs.Writing.{WritesOutput};
 ghost use Rattle.papergrid_script.specs.Seen.{rows_seen, table_seen};
 ghost use Rattle.papergrid_script.specs.declared.reading.RunFault.TheVariants.{Read};
 ghost use Rattle.papergrid_script.specs.declared.reading.RunFault.TheVariants as run_faults;
@@ -118,21 +118,12 @@ pub fn run_table<S: Source, W: Sink>(
     // Of a reader and a writer that had not failed.
     requires reader { S.has_failed reader.old ≡ false }
     requires writer { W.has_failed writer.old ≡ false }
-    // The picture that it tells was written, or why it has none, and nothing else.
-    ensures written { IfOk result (λ end. (output : List ℕ)
-        × IsPictureRun sizing input.new.items end output
-        × Appends (W.contents writer.old) (W.contents writer.new) output) }
-    // The whole input is kept, and no read and no write failed. Each write of a piece that isn't empty took a byte, of a
-    // writer that had not stalled before.
-    ensures ran { OnOk result (HasRun S.remaining S.has_failed W.contents W.has_failed
-        W.has_stalled reader.old reader.new writer.old writer.new input.old input.new) }
-    // Which fault comes, and what it leaves of the reader, of the writer and of the vector.
-    ensures fault { IfErr result (IsRunFault S.remaining S.has_failed W.contents W.has_failed
-        W.has_stalled reader.old reader.new writer.old writer.new input.old input.new) }
-    ensures beginning { OnErr result ((writer.new ≡ writer.old)
-        ⊎ ((end : RunEnd) × ((output : List ℕ) × IsPictureRun sizing input.new.items end output
-        × ((n : ℕ) × Appends (W.contents writer.old) (W.contents writer.new)
-        (take n output))))) }
+    // The picture that it tells was written, or why it has none, and nothing else. The whole input is kept, and no end failed.
+    // Or which fault comes, and what it leaves.
+    ensures { Runs S.remaining S.has_failed W.contents W.has_failed W.has_stalled
+        reader.old reader.new writer.old writer.new input.old input.new
+        (IsPictureRun sizing input.new.items)
+        (λ output. (end : RunEnd) × IsPictureRun sizing input.new.items end output) result }
 {
     *input = read_all(alloc, reader)?;
     draw_input(alloc, sizing, input.as_slice(), writer)
@@ -145,8 +136,8 @@ fn draw_input<W: Sink>(
     input: &[u8],
     writer: &mut W,
 ) -> Result<RunEnd, RunFault>
-    ensures { Runs W.contents W.has_failed W.has_stalled (IsPictureRun sizing input.now)
-        writer.old writer.new result }
+    ensures { WritesOutput W.contents W.has_failed W.has_stalled (λ _. ⊤)
+        (IsPictureRun sizing input.now) writer.old writer.new result }
 {
     let texts = Bump::new(alloc);
     match read_script(alloc, &texts, input) {
@@ -160,7 +151,7 @@ fn draw_input<W: Sink>(
 
 /// Writes a text, after which the run ends so.
 fn say<W: Sink>(writer: &mut W, end: RunEnd, text: Vec<u8>) -> Result<RunEnd, RunFault>
-    ensures { Runs W.contents W.has_failed W.has_stalled
+    ensures { WritesOutput W.contents W.has_failed W.has_stalled (λ _. ⊤)
         (λ e output. (e ≡ end) × (output ≡ text.items)) writer.old writer.new result }
 {
     match write_all(writer, text.as_slice()) {
@@ -176,7 +167,7 @@ fn draw_script<W: Sink>(
     script: Script<'_>,
     writer: &mut W,
 ) -> Result<RunEnd, RunFault>
-    ensures { Runs W.contents W.has_failed W.has_stalled
+    ensures { WritesOutput W.contents W.has_failed W.has_stalled (λ _. ⊤)
         (IsTablePicture sizing (table_seen script.entry)) writer.old writer.new result }
 {
     history_decides();

@@ -1,21 +1,19 @@
 //! The printer over records whose cells are texts. Source: `grid/iterable.rs`. Each call takes an allocator first, for
 //! the rows that it holds, for some numbers of each row and column and for a line.
 
-ghost use Rattle.std.specs.Prelude.{◌≡◌, ◌≢◌, IfErr, IfOk, List, OnOk, length, string_bytes};
-ghost use Rattle.std.specs.Fmt.{WritesInCalls};
-ghost use Rattle.papergrid_draw.specs.Drawings.{Drawing};
+ghost use Rattle.std.specs.Prelude.{◌≡◌, ⊤, List, length};
 ghost use Rattle.papergrid_draw.specs.Margins.{printed};
-ghost use Rattle.papergrid_text.specs.Transfer.{IsTaken};
-ghost use Rattle.papergrid_draw.specs.Sinks.{IsRefusal, IsUndrawn};
-ghost use Rattle.papergrid_draw.specs.declared.error.DrawError.TheVariants.{Write};
+ghost use Rattle.papergrid_draw.specs.Sinks.{WritesPicture};
 ghost use Rattle.papergrid_layout.specs.Tables.{HasSizes};
-ghost use Rattle.papergrid.specs.Printed.{IsPrintFault, IsUnprinted};
+ghost use Rattle.papergrid.specs.Printed.{IsPrintFault, Prints, PrintsString};
 ghost use Rattle.papergrid.specs.Sized.{texts_at};
 ghost use Rattle.papergrid.specs.TextRows.{IsTextDrawing};
 
 use crate::holding::held_table;
-use crate::printer::{string_sized, text_sized, write_sized};
+use crate::printer::print_sized;
 use papergrid_config::SpannedConfig;
+use papergrid_draw::delivery::{Delivery, ToSink, ToText};
+use papergrid_draw::printer::string_of;
 use papergrid_draw::{AsANSIStr, DrawError};
 use papergrid_layout::Dimension;
 use papergrid_text::transfer::Sink;
@@ -86,6 +84,30 @@ where
     <<R as Records>::Iter as IntoRecords>::Cell: AsStr + Drop,
     <C as Colors>::Color: AsANSIStr,
 {
+    /// Writes the picture, by a way to deliver its lines.
+    fn print<V: Delivery<W>, W>(self, alloc: Global, writer: &mut W) -> Result<(), DrawError>
+        requires lawful { R.is_lawful self.records }
+        requires rows { (cells : List (List R.Iter.Cell)) → R.tells self.records cells →
+            HasSizes (D.has_row self.dimension.now) (length cells) }
+        requires columns { HasSizes (D.has_column self.dimension.now) (R.columns self.records) }
+        ensures { let IsDrawn = IsTextDrawing R.Iter.Cell.text (R.tells self.entry.records)
+            (R.columns self.entry.records) self.entry.config.now
+            (D.width_of self.entry.dimension.now) (D.height_of self.entry.dimension.now)
+            (texts_at C.Color.texts C.color_at self.entry.colors.now) in
+            Prints IsDrawn V.takes V.breaks writer.old writer.new result }
+    {
+        let held = held_table(alloc, self.records)?;
+        let texts = held.texts(alloc, self.colors);
+        print_sized::<_, _, V, W>(
+            alloc,
+            self.config,
+            self.dimension,
+            held.shape(),
+            &texts,
+            writer,
+        )
+    }
+
     /// Writes the picture as text, one line at a time: nothing of a table without rows or columns. A writer of text
     /// tells nothing of a text that it did not take.
     ///
@@ -102,27 +124,13 @@ where
         requires rows { (cells : List (List R.Iter.Cell)) → R.tells self.records cells →
             HasSizes (D.has_row self.dimension.now) (length cells) }
         requires columns { HasSizes (D.has_column self.dimension.now) (R.columns self.records) }
-        ensures picture { OnOk result ((d : Drawing) × IsTextDrawing R.Iter.Cell.text
-            (R.tells self.entry.records) (R.columns self.entry.records) self.entry.config.now
-            (D.width_of self.entry.dimension.now) (D.height_of self.entry.dimension.now)
-            (texts_at C.Color.texts C.color_at self.entry.colors.now) d
-            × WritesInCalls F.write_str_gives writer.old (printed d) writer.new) }
-        ensures unprinted { let IsDrawn = IsTextDrawing R.Iter.Cell.text
-            (R.tells self.entry.records) (R.columns self.entry.records) self.entry.config.now
+        ensures { let IsDrawn = IsTextDrawing R.Iter.Cell.text (R.tells self.entry.records)
+            (R.columns self.entry.records) self.entry.config.now
             (D.width_of self.entry.dimension.now) (D.height_of self.entry.dimension.now)
             (texts_at C.Color.texts C.color_at self.entry.colors.now) in
-            IfErr result (IsUnprinted IsDrawn F.write_str_gives writer.old writer.new) }
+            Prints IsDrawn F.write_str_gives (λ _ _ _. ⊤) writer.old writer.new result }
     {
-        let held = held_table(alloc, self.records)?;
-        let texts = held.texts(alloc, self.colors);
-        text_sized(
-            alloc,
-            self.config,
-            self.dimension,
-            held.shape(),
-            &texts,
-            writer,
-        )
+        self.print::<ToText, F>(alloc, writer)
     }
 
     /// Writes the picture to a sink, one line at a time: nothing of a table without rows or columns.
@@ -138,28 +146,14 @@ where
         requires rows { (cells : List (List R.Iter.Cell)) → R.tells self.records cells →
             HasSizes (D.has_row self.dimension.now) (length cells) }
         requires columns { HasSizes (D.has_column self.dimension.now) (R.columns self.records) }
-        ensures picture { OnOk result ((d : Drawing) × IsTextDrawing R.Iter.Cell.text
-            (R.tells self.entry.records) (R.columns self.entry.records) self.entry.config.now
-            (D.width_of self.entry.dimension.now) (D.height_of self.entry.dimension.now)
-            (texts_at C.Color.texts C.color_at self.entry.colors.now) d
-            × IsTaken W.contents W.has_failed W.has_stalled sink.old (printed d) sink.new) }
-        ensures undrawn { let IsDrawn = IsTextDrawing R.Iter.Cell.text
-            (R.tells self.entry.records) (R.columns self.entry.records) self.entry.config.now
+        ensures { let IsDrawn = IsTextDrawing R.Iter.Cell.text (R.tells self.entry.records)
+            (R.columns self.entry.records) self.entry.config.now
             (D.width_of self.entry.dimension.now) (D.height_of self.entry.dimension.now)
             (texts_at C.Color.texts C.color_at self.entry.colors.now) in
-            IfErr result (IsUndrawn W.contents W.has_failed W.has_stalled IsDrawn
-            (IsPrintFault IsDrawn) printed sink.old sink.new) }
+            WritesPicture W.contents W.has_failed W.has_stalled IsDrawn (IsPrintFault IsDrawn)
+            printed sink.old sink.new result }
     {
-        let held = held_table(alloc, self.records)?;
-        let texts = held.texts(alloc, self.colors);
-        write_sized(
-            alloc,
-            self.config,
-            self.dimension,
-            held.shape(),
-            &texts,
-            sink,
-        )
+        self.print::<ToSink, W>(alloc, sink)
     }
 
     /// The picture: empty for a table without rows or columns.
@@ -175,20 +169,14 @@ where
         requires rows { (cells : List (List R.Iter.Cell)) → R.tells self.records cells →
             HasSizes (D.has_row self.dimension.now) (length cells) }
         requires columns { HasSizes (D.has_column self.dimension.now) (R.columns self.records) }
-        ensures picture { IfOk result (λ string. (d : Drawing) × IsTextDrawing R.Iter.Cell.text
-            (R.tells self.entry.records) (R.columns self.entry.records) self.entry.config.now
-            (D.width_of self.entry.dimension.now) (D.height_of self.entry.dimension.now)
-            (texts_at C.Color.texts C.color_at self.entry.colors.now) d
-            × (string_bytes string ≡ printed d)) }
-        ensures fault { let IsDrawn = IsTextDrawing R.Iter.Cell.text
-            (R.tells self.entry.records) (R.columns self.entry.records) self.entry.config.now
+        ensures { let IsDrawn = IsTextDrawing R.Iter.Cell.text (R.tells self.entry.records)
+            (R.columns self.entry.records) self.entry.config.now
             (D.width_of self.entry.dimension.now) (D.height_of self.entry.dimension.now)
             (texts_at C.Color.texts C.color_at self.entry.colors.now) in
-            IfErr result (λ e. IsRefusal e → IsPrintFault IsDrawn e) }
-        ensures works { IfErr result (λ e. e ≢ Write) }
+            PrintsString IsDrawn result }
     {
-        let held = held_table(alloc, self.records)?;
-        let texts = held.texts(alloc, self.colors);
-        string_sized(alloc, self.config, self.dimension, held.shape(), &texts)
+        let mut text = String::new(alloc);
+        let drawn = self.build(alloc, &mut text);
+        string_of(text, drawn)
     }
 }

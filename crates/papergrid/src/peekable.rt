@@ -1,19 +1,19 @@
 //! The printer over records whose cells know their lines and widths. Source: `grid/peekable.rs`. Each call takes an
 //! allocator first, for some numbers of each row and column and for a line.
 
-ghost use Rattle.std.specs.Prelude.{◌≡◌, ◌≢◌, ⊤, IfErr, IfOk, OnOk, string_bytes};
-ghost use Rattle.std.specs.Fmt.{WritesInCalls};
+ghost use Rattle.std.specs.Prelude.{◌≡◌, ⊤};
 ghost use Rattle.papergrid_text.specs.HeldRows.{rows_held};
-ghost use Rattle.papergrid_draw.specs.Deliveries.{IsLeftOff};
+ghost use Rattle.papergrid_draw.specs.Drawings.{Drawing};
 ghost use Rattle.papergrid_draw.specs.Margins.{printed};
-ghost use Rattle.papergrid_text.specs.Transfer.{IsTaken};
-ghost use Rattle.papergrid_draw.specs.Sinks.{IsCutOff};
-ghost use Rattle.papergrid_draw.specs.declared.error.DrawError.TheVariants.{Write};
+ghost use Rattle.papergrid_draw.specs.Sinks.{WritesPicture};
 ghost use Rattle.papergrid_layout.specs.Tables.{HasSizes};
-ghost use Rattle.papergrid.specs.Sized.{IsGridFault, drawing_held, shape_told, texts_at};
+ghost use Rattle.papergrid.specs.Printed.{IsPrintFault, Prints, PrintsString};
+ghost use Rattle.papergrid.specs.Sized.{drawing_held, shape_told, texts_at};
 
-use crate::printer::{string_sized, text_sized, write_sized};
+use crate::printer::print_sized;
 use papergrid_config::SpannedConfig;
+use papergrid_draw::delivery::{Delivery, ToSink, ToText};
+use papergrid_draw::printer::string_of;
 use papergrid_draw::{AsANSIStr, DrawError, RecordCells};
 use papergrid_layout::Dimension;
 use papergrid_text::transfer::Sink;
@@ -101,6 +101,28 @@ impl<'a, T: Cell, D: Dimension, C: Colors> PeekableGrid<'a, T, D, C>
 where
     <C as Colors>::Color: AsANSIStr,
 {
+    /// Writes the picture, by a way to deliver its lines.
+    fn print<V: Delivery<W>, W>(&self, alloc: Global, writer: &mut W) -> Result<(), DrawError>
+        requires rows { HasSizes (D.has_row self.now.dimension.now)
+            (shape_told self.now.records.now).0 }
+        requires columns { HasSizes (D.has_column self.now.dimension.now)
+            (shape_told self.now.records.now).1 }
+        ensures { let IsDrawn = λ (d : Drawing). d ≡ drawing_held T.lines
+            self.now.config.now
+            (D.width_of self.now.dimension.now) (D.height_of self.now.dimension.now)
+            self.now.records.now (texts_at C.Color.texts C.color_at self.now.colors.now) in
+            Prints IsDrawn V.takes V.breaks writer.old writer.new result }
+    {
+        print_sized::<_, _, V, W>(
+            alloc,
+            self.config,
+            self.dimension,
+            self.shape(),
+            &self.cells(),
+            writer,
+        )
+    }
+
     /// Writes the picture as text, one line at a time: nothing of a table without rows or columns. A writer of text
     /// tells nothing of a text that it did not take.
     ///
@@ -116,28 +138,13 @@ where
             (shape_told self.now.records.now).0 }
         requires columns { HasSizes (D.has_column self.now.dimension.now)
             (shape_told self.now.records.now).1 }
-        ensures picture { let d = drawing_held T.lines self.now.config.now
+        ensures { let IsDrawn = λ (d : Drawing). d ≡ drawing_held T.lines
+            self.now.config.now
             (D.width_of self.now.dimension.now) (D.height_of self.now.dimension.now)
             self.now.records.now (texts_at C.Color.texts C.color_at self.now.colors.now) in
-            OnOk result (WritesInCalls F.write_str_gives writer.old (printed d) writer.new) }
-        ensures fault { let d = drawing_held T.lines self.now.config.now
-            (D.width_of self.now.dimension.now) (D.height_of self.now.dimension.now)
-            self.now.records.now (texts_at C.Color.texts C.color_at self.now.colors.now) in
-            IfErr result (IsGridFault d) }
-        ensures left { let d = drawing_held T.lines self.now.config.now
-            (D.width_of self.now.dimension.now) (D.height_of self.now.dimension.now)
-            self.now.records.now (texts_at C.Color.texts C.color_at self.now.colors.now) in
-            IfErr result
-            (IsLeftOff F.write_str_gives (λ _ _ _. ⊤) writer.old (printed d) writer.new) }
+            Prints IsDrawn F.write_str_gives (λ _ _ _. ⊤) writer.old writer.new result }
     {
-        text_sized(
-            alloc,
-            self.config,
-            self.dimension,
-            self.shape(),
-            &self.cells(),
-            writer,
-        )
+        self.print::<ToText, F>(alloc, writer)
     }
 
     /// Writes the picture to a sink, one line at a time: nothing of a table without rows or columns.
@@ -152,29 +159,14 @@ where
             (shape_told self.now.records.now).0 }
         requires columns { HasSizes (D.has_column self.now.dimension.now)
             (shape_told self.now.records.now).1 }
-        ensures picture { let d = drawing_held T.lines self.now.config.now
+        ensures { let IsDrawn = λ (d : Drawing). d ≡ drawing_held T.lines
+            self.now.config.now
             (D.width_of self.now.dimension.now) (D.height_of self.now.dimension.now)
             self.now.records.now (texts_at C.Color.texts C.color_at self.now.colors.now) in
-            OnOk result
-            (IsTaken W.contents W.has_failed W.has_stalled sink.old (printed d) sink.new) }
-        ensures fault { let d = drawing_held T.lines self.now.config.now
-            (D.width_of self.now.dimension.now) (D.height_of self.now.dimension.now)
-            self.now.records.now (texts_at C.Color.texts C.color_at self.now.colors.now) in
-            IfErr result (IsGridFault d) }
-        ensures left { let d = drawing_held T.lines self.now.config.now
-            (D.width_of self.now.dimension.now) (D.height_of self.now.dimension.now)
-            self.now.records.now (texts_at C.Color.texts C.color_at self.now.colors.now) in
-            IfErr result
-            (IsCutOff W.contents W.has_failed W.has_stalled sink.old (printed d) sink.new) }
+            WritesPicture W.contents W.has_failed W.has_stalled IsDrawn (IsPrintFault IsDrawn)
+            printed sink.old sink.new result }
     {
-        write_sized(
-            alloc,
-            self.config,
-            self.dimension,
-            self.shape(),
-            &self.cells(),
-            sink,
-        )
+        self.print::<ToSink, W>(alloc, sink)
     }
 
     /// The picture: empty for a table without rows or columns.
@@ -189,22 +181,14 @@ where
             (shape_told self.now.records.now).0 }
         requires columns { HasSizes (D.has_column self.now.dimension.now)
             (shape_told self.now.records.now).1 }
-        ensures picture { let d = drawing_held T.lines self.now.config.now
+        ensures { let IsDrawn = λ (d : Drawing). d ≡ drawing_held T.lines
+            self.now.config.now
             (D.width_of self.now.dimension.now) (D.height_of self.now.dimension.now)
             self.now.records.now (texts_at C.Color.texts C.color_at self.now.colors.now) in
-            IfOk result (λ text. string_bytes text ≡ printed d) }
-        ensures fault { let d = drawing_held T.lines self.now.config.now
-            (D.width_of self.now.dimension.now) (D.height_of self.now.dimension.now)
-            self.now.records.now (texts_at C.Color.texts C.color_at self.now.colors.now) in
-            IfErr result (IsGridFault d) }
-        ensures works { IfErr result (λ e. e ≢ Write) }
+            PrintsString IsDrawn result }
     {
-        string_sized(
-            alloc,
-            self.config,
-            self.dimension,
-            self.shape(),
-            &self.cells(),
-        )
+        let mut text = String::new(alloc);
+        let drawn = self.build(alloc, &mut text);
+        string_of(text, drawn)
     }
 }

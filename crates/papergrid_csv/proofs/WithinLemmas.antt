@@ -1,22 +1,24 @@
 -- Cuts that are tried, the widest first.
-use Rattle.std.proofs.Common.{◌≡◌, ◌≤◌, ◌<◌, ◌+◌, ◌-◌, ℕ, Bool, List, [], Option, None, Some, Result, Ok, Err, ap, arith, inl, inr, length, refl, subst, sym}
+use Rattle.std.proofs.Common.{◌≡◌, ◌≤◌, ◌<◌, ◌+◌, ◌-◌, ◌∙◌, ℕ, Bool, List, [], Option, None, Some, Result, Ok, Err, ap, arith, inl, inr, length, refl, subst, sym}
 use Rattle.std.proofs.lemmas.Bool.{cases_lt}
 use Rattle.papergrid_config.specs.declared.setting.Setting.{Setting}
 use Rattle.papergrid_config.specs.declared.spanned.SpannedConfig.{SpannedConfig}
+use Rattle.papergrid_script.specs.Writing.{IsBrokenOff}
 use Rattle.papergrid_script.specs.declared.reading.RunFault.{RunFault}
+use Rattle.papergrid_script.proofs.RunLemmas.{runs-also}
 use Rattle.papergrid_csv.specs.Pictures.{IsCsvRun, IsUnwritten}
 use Rattle.papergrid_csv.specs.Requests.{settings_of}
 use Rattle.papergrid_csv.specs.Rows.{AreRowsOf, IsUnread}
 use Rattle.papergrid_csv.specs.Shown.{AreCut}
 use Rattle.papergrid_csv.specs.Within.{IsGreatestCut, IsLastCut, IsRunWithin, IsWiderWith, cut_request}
-use Rattle.papergrid_csv.specs.ForProofs.Drawn.{Configured, Crossed, Faulted, Free, IsCsvBrokenOff, IsConfigRun, IsRowsRun, IsSettingsRun, Kept, RunsCsv, Sized, end_unread}
+use Rattle.papergrid_csv.specs.ForProofs.Drawn.{Configured, Crossed, Faulted, Free, IsConfigRun, IsPictured, IsRowsRun, IsSettingsRun, Kept, RunsCsv, Sized, end_unread}
 use Rattle.papergrid_csv.specs.ForProofs.Within.{IsFirstCut, IsTried}
 use Rattle.papergrid_csv.specs.declared.reading.RowsError.{RowsError}
 use Rattle.papergrid_csv.specs.declared.reading.RowsError.TheVariants as rows_errors
 use Rattle.papergrid_csv.specs.declared.request.Request.{Request}
 use Rattle.papergrid_csv.specs.declared.run.CsvEnd.{CsvEnd}
 use Rattle.papergrid_csv.specs.declared.run.CsvEnd.TheVariants.{Drawn, NotText, Ragged, TooWide, Unclosed}
-use Rattle.papergrid_csv.proofs.DrawLemmas.{run-no_memory, run-silent, runs-also}
+use Rattle.papergrid_csv.proofs.DrawLemmas.{run-no_memory, run-silent}
 use Rattle.papergrid_csv.proofs.RunLemmas.{csv-run-of}
 
 -- ---- a cut that changes no field
@@ -66,15 +68,23 @@ module _ {W : Type 0} (contents : W → Option (List ℕ)) (has_failed has_stall
 
   -- a run that broke off drew the picture
   broken-within : (request : Request) (cut : Option ℕ) → request ≡ cut_request asked width cut → IsGreatestCut asked width input cut → (old new : W) (fault : RunFault) →
-      IsCsvBrokenOff contents has_failed has_stalled (IsCsvRun request input) old new fault → IsCsvBrokenOff contents has_failed has_stalled (IsRunWithin asked width input cut) old new fault
+      IsBrokenOff contents has_failed has_stalled IsPictured (IsCsvRun request input) old new fault → IsBrokenOff contents has_failed has_stalled IsPictured (IsRunWithin asked width input cut) old new fault
   broken-within request cut is greatest old new fault so = record {
     not_read = so.not_read;
     beginning = elim so.beginning [
       | inl same ↦ inl same
       | inr begun ↦ inr (
         begun.0,
-        record { greatest = greatest; run = subst (λ r. IsCsvRun r input Drawn begun.0) is begun.1; last = λ found end. absurd (let none : ⊥ = cc in none) },
-        begun.2,
+        begun.1,
+        (
+          begun.2.0,
+          record {
+            greatest = greatest;
+            run = subst (λ r. IsCsvRun r input begun.0 begun.2.0) is begun.2.1;
+            last = λ found end. let never : Drawn ≡ TooWide found = sym begun.1 ∙ end in absurd (cc never);
+          },
+          begun.2.2,
+        ),
       )
     ];
     write = so.write;
@@ -86,7 +96,7 @@ module _ {W : Type 0} (contents : W → Option (List ℕ)) (has_failed has_stall
     input-run : (request : Request) → request.reading ≡ asked.reading → (old new : W) (result : Result CsvEnd RunFault) → RunsCsv contents has_failed has_stalled (IsRowsRun request columns rows) old new result →
         RunsCsv contents has_failed has_stalled (IsCsvRun request input) old new result
     input-run request same old new result so =
-        runs-also contents has_failed has_stalled (IsRowsRun request columns rows) (IsCsvRun request input)
+        runs-also contents has_failed has_stalled IsPictured (IsRowsRun request columns rows) (IsCsvRun request input)
         (csv-run-of request input columns rows (subst (λ reading. AreRowsOf reading input columns rows) (sym same) are)) old new result so
 
     -- fields stay as they are at first
@@ -109,8 +119,8 @@ module _ {W : Type 0} (contents : W → Option (List ℕ)) (has_failed has_stall
     }
 
     -- or their run broke off
-    pub broken-first : (old new : W) (fault : RunFault) → IsCsvBrokenOff contents has_failed has_stalled (IsRowsRun (cut_request asked width None) columns rows) old new fault →
-        IsCsvBrokenOff contents has_failed has_stalled (IsRunWithin asked width input None) old new fault
+    pub broken-first : (old new : W) (fault : RunFault) → IsBrokenOff contents has_failed has_stalled IsPictured (IsRowsRun (cut_request asked width None) columns rows) old new fault →
+        IsBrokenOff contents has_failed has_stalled IsPictured (IsRunWithin asked width input None) old new fault
     broken-first old new fault so = broken-within (cut_request asked width None) None refl tt old new fault (input-run (cut_request asked width None) refl old new (Err fault) so)
 
   module _ (old new : W) (request : Request) (end : CsvEnd) (left : ℕ) (tried : IsTried contents has_failed has_stalled asked width input old new request end left) where
@@ -180,8 +190,8 @@ module _ {W : Type 0} (contents : W → Option (List ℕ)) (has_failed has_stall
 
       -- or its run broke off
       pub broken-next : 0 < left → (found : ℕ) → end ≡ TooWide found → (last : W) (fault : RunFault) →
-          IsCsvBrokenOff contents has_failed has_stalled (IsRowsRun (record request { cut = Some left }) columns rows) new last fault →
-          IsCsvBrokenOff contents has_failed has_stalled (IsRunWithin asked width input (Some left)) old last fault
+          IsBrokenOff contents has_failed has_stalled IsPictured (IsRowsRun (record request { cut = Some left }) columns rows) new last fault →
+          IsBrokenOff contents has_failed has_stalled IsPictured (IsRunWithin asked width input (Some left)) old last fault
       broken-next some found wide last fault so =
           broken-within (record request { cut = Some left }) (Some left) next-request (next-greatest some found wide) old last fault (next-run last (Err fault) so found wide)
 

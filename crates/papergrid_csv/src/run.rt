@@ -1,7 +1,6 @@
 //! The run of a CSV text: read to the end, judge, draw.
 
-ghost use Rattle.std.specs.Prelude.{◌≡◌, ◌≢◌, ◌⊎◌, ℕ, All, IfErr, IfOk, List, MatchBool, MatchOption, OnErr, OnOk, false, length, map, take, true};
-ghost use Rattle.std.specs.Io.KnownBytes.{Appends};
+ghost use Rattle.std.specs.Prelude.{◌≡◌, ◌≢◌, All, IfErr, List, MatchBool, MatchOption, OnOk, false, length, map, true};
 ghost use Rattle.papergrid_config.specs.Applied.{is_in_range};
 ghost use Rattle.papergrid_config.specs.History.{AppendsSettings};
 ghost use Rattle.papergrid_config.specs.declared.setting.Setting.{Setting};
@@ -10,7 +9,7 @@ ghost use Rattle.papergrid_draw.specs.declared.error.DrawError.TheVariants.{Writ
 ghost use Rattle.papergrid_draw.specs.Crossings.{FitCrossings, IsFitFault};
 ghost use Rattle.papergrid_draw.specs.Sinks.{IsRefusal};
 ghost use Rattle.papergrid_draw.specs.Pictures.{texts_drawing};
-ghost use Rattle.papergrid_script.specs.Runs.{HasRun, IsRunFault};
+ghost use Rattle.papergrid_script.specs.Runs.{Runs};
 ghost use Rattle.papergrid_csv.specs.Pictures.{IsCsvRun, IsNarrow, IsWide};
 ghost use Rattle.papergrid_csv.specs.Requests.{settings_of};
 ghost use Rattle.papergrid_csv.specs.Rows.{row_texts, held_texts};
@@ -77,21 +76,12 @@ pub fn run_csv<S: Source, W: Sink>(
     // Of a reader and a writer that had not failed.
     requires reader { S.has_failed reader.old ≡ false }
     requires writer { W.has_failed writer.old ≡ false }
-    // The picture of its table was written, or nothing where it has none.
-    ensures written { IfOk result (λ end. (output : List ℕ)
-        × IsCsvRun request.now input.new.items end output
-        × Appends (W.contents writer.old) (W.contents writer.new) output) }
-    // The whole input is kept, and no read and no write failed. Each write of a piece that isn't empty took a byte, of a
-    // writer that had not stalled before.
-    ensures ran { OnOk result (HasRun S.remaining S.has_failed W.contents W.has_failed
-        W.has_stalled reader.old reader.new writer.old writer.new input.old input.new) }
-    // Which fault comes, and what it leaves of the reader, of the writer and of the vector.
-    ensures fault { IfErr result (IsRunFault S.remaining S.has_failed W.contents W.has_failed
-        W.has_stalled reader.old reader.new writer.old writer.new input.old input.new) }
-    ensures beginning { OnErr result ((writer.new ≡ writer.old)
-        ⊎ ((output : List ℕ) × IsCsvRun request.now input.new.items Drawn output
-        × ((n : ℕ) × Appends (W.contents writer.old) (W.contents writer.new)
-        (take n output)))) }
+    // The picture of its table was written, or nothing where it has none. The whole input is kept, and no end failed. Or which
+    // fault comes, and what it leaves.
+    ensures { Runs S.remaining S.has_failed W.contents W.has_failed W.has_stalled
+        reader.old reader.new writer.old writer.new input.old input.new
+        (IsCsvRun request.now input.new.items) (IsCsvRun request.now input.new.items Drawn)
+        result }
 {
     *input = read_all(alloc, reader)?;
     draw_input(alloc, request, input.as_slice(), writer)

@@ -1,8 +1,7 @@
 //! The run of a CSV text whose fields are cut so that its table is no wider than it may be.
 
-ghost use Rattle.std.specs.Prelude.{◌≡◌, ◌⊎◌, ◌↔◌, ℕ, IfErr, IfOk, IsTrue, List, OnErr, OnOk, false, take, true};
-ghost use Rattle.std.specs.Io.KnownBytes.{Appends};
-ghost use Rattle.papergrid_script.specs.Runs.{HasRun, IsRunFault};
+ghost use Rattle.std.specs.Prelude.{◌≡◌, ◌⊎◌, ◌↔◌, ℕ, IsTrue, OnErr, OnOk, false, true};
+ghost use Rattle.papergrid_script.specs.Runs.{Runs};
 ghost use Rattle.papergrid_csv.specs.Rows.{held_texts};
 ghost use Rattle.papergrid_csv.specs.Within.{IsRunWithin, cut_request};
 ghost use Rattle.papergrid_csv.specs.ForProofs.Drawn.{RunsCsv};
@@ -37,26 +36,16 @@ pub fn run_csv_within<S: Source, W: Sink>(
     // Of a reader and a writer that had not failed.
     requires reader { S.has_failed reader.old ≡ false }
     requires writer { W.has_failed writer.old ≡ false }
-    // The picture of its table, with fields cut as the request says now, was written, or nothing where it has none.
-    ensures written { IfOk result (λ end. (output : List ℕ)
-        × IsRunWithin request.old width input.new.items request.new.cut end output
-        × Appends (W.contents writer.old) (W.contents writer.new) output) }
+    // The picture of its table, with fields cut as the request says now, was written, or nothing where it has none. The whole
+    // input is kept, and no end failed. Or which fault comes, and what it leaves.
+    ensures runs { Runs S.remaining S.has_failed W.contents W.has_failed W.has_stalled
+        reader.old reader.new writer.old writer.new input.old input.new
+        (IsRunWithin request.old width input.new.items request.new.cut)
+        (IsRunWithin request.old width input.new.items request.new.cut Drawn) result }
     // The request has the cut that was found, and is else as it was but for the width.
     ensures request { OnOk result (request.new ≡ cut_request request.old width request.new.cut) }
     ensures request_err { OnErr result ((request.new ≡ request.old)
         ⊎ (request.new ≡ cut_request request.old width request.new.cut)) }
-    // The whole input is kept, and no read and no write failed. Each write of a piece that isn't empty took a byte, of a
-    // writer that had not stalled before.
-    ensures ran { OnOk result (HasRun S.remaining S.has_failed W.contents W.has_failed
-        W.has_stalled reader.old reader.new writer.old writer.new input.old input.new) }
-    // Which fault comes, and what it leaves of the reader, of the writer and of the vector.
-    ensures fault { IfErr result (IsRunFault S.remaining S.has_failed W.contents W.has_failed
-        W.has_stalled reader.old reader.new writer.old writer.new input.old input.new) }
-    ensures beginning { OnErr result ((writer.new ≡ writer.old)
-        ⊎ ((output : List ℕ)
-        × IsRunWithin request.old width input.new.items request.new.cut Drawn output
-        × ((n : ℕ) × Appends (W.contents writer.old) (W.contents writer.new)
-        (take n output)))) }
 {
     *input = read_all(alloc, reader)?;
     draw_within(alloc, width, request, input.as_slice(), writer)

@@ -1,12 +1,14 @@
 -- What was written where a picture was, or was not.
-use Rattle.std.proofs.Common.{ℕ, List, [], Result, Ok, Err, refl}
+use Rattle.std.proofs.Common.{◌≢◌, ℕ, Global, List, [], Result, Ok, Err, IfErr, IfOk, OnOk, refl, subst, sym}
+use Rattle.std.specs.Prelude.{MatchResult, String}
+use Rattle.std.specs.declared.alloc.AllocError.{AllocError}
 use Rattle.std.proofs.Output.{writes_in_calls_nil}
-use Rattle.papergrid_draw.specs.Deliveries.{IsLeftOff}
+use Rattle.papergrid_draw.specs.Deliveries.{Draws, IsLeftOff, IsStringOf}
 use Rattle.papergrid_draw.specs.Drawings.{Drawing}
 use Rattle.papergrid_draw.specs.Faults.{IsDrawFault}
 use Rattle.papergrid_draw.specs.declared.error.DrawError.{DrawError}
 use Rattle.papergrid_draw.specs.declared.error.DrawError.TheVariants.{Memory, NoRoom, NotTiled, OutOfTable, TooLarge, Write}
-use Rattle.papergrid_draw.specs.ForProofs.Sheets.{Draws, IsCutShort, IsDrawRefusal, Writes}
+use Rattle.papergrid_draw.specs.ForProofs.Sheets.{IsCutShort, IsDrawRefusal, Writes}
 
 -- by the relations of texts that are taken and of one that breaks off
 module _ {W : Type 0} (takes breaks : W → List ℕ → W → Type 0) where
@@ -43,3 +45,25 @@ module _ {W : Type 0} (takes breaks : W → List ℕ → W → Type 0) where
   pub draws-written : {A : Type 0} (a b : W) (d : Drawing) (bytes : List ℕ) (r : Result A DrawError) → Writes takes breaks a b bytes r → Draws takes breaks d a b bytes r
   draws-written a b d bytes (Ok x) writes = record { picture = writes; fault = tt; left = tt }
   draws-written a b d bytes (Err e) writes = record { picture = tt; fault = cut-fault a b d bytes e writes; left = left-cut a b bytes e writes }
+
+-- what holds of a string with the whole text, of why a table is not drawn, and of an allocation that fails
+pub string-drawn : {A : Type 0} (text : String Global) (P : String Global → Type 0) (Q : DrawError → Type 0) (drawn : Result A DrawError) (result : Result (String Global) DrawError) →
+    IsStringOf text drawn result → OnOk drawn (P text) → IfErr drawn (λ e. e ≢ Write → Q e) → ((e : AllocError) → Q (Memory e)) → MatchResult result P Q
+string-drawn text P Q (Ok x) result is ok err memory = subst (λ r. MatchResult r P Q) (sym is) ok
+string-drawn text P Q (Err Write) result is ok err memory = subst (λ r. MatchResult r P Q) (sym is.1) (memory is.0)
+string-drawn text P Q (Err (Memory e)) result is ok err memory = subst (λ r. MatchResult r P Q) (sym is) (memory e)
+string-drawn text P Q (Err (OutOfTable p)) result is ok err memory = subst (λ r. MatchResult r P Q) (sym is) (err (λ write. cc write))
+string-drawn text P Q (Err (NotTiled p)) result is ok err memory = subst (λ r. MatchResult r P Q) (sym is) (err (λ write. cc write))
+string-drawn text P Q (Err (NoRoom p)) result is ok err memory = subst (λ r. MatchResult r P Q) (sym is) (err (λ write. cc write))
+string-drawn text P Q (Err TooLarge) result is ok err memory = subst (λ r. MatchResult r P Q) (sym is) (err (λ write. cc write))
+
+-- what holds of the whole text holds of such a string
+pub string-whole : {A : Type 0} (text : String Global) (P : String Global → Type 0) (drawn : Result A DrawError) (result : Result (String Global) DrawError) →
+    IsStringOf text drawn result → OnOk drawn (P text) → IfOk result P
+string-whole text P (Ok x) result is ok = subst (λ r. IfOk r P) (sym is) ok
+string-whole text P (Err Write) result is ok = subst (λ r. IfOk r P) (sym is.1) tt
+string-whole text P (Err (Memory e)) result is ok = subst (λ r. IfOk r P) (sym is) tt
+string-whole text P (Err (OutOfTable p)) result is ok = subst (λ r. IfOk r P) (sym is) tt
+string-whole text P (Err (NotTiled p)) result is ok = subst (λ r. IfOk r P) (sym is) tt
+string-whole text P (Err (NoRoom p)) result is ok = subst (λ r. IfOk r P) (sym is) tt
+string-whole text P (Err TooLarge) result is ok = subst (λ r. IfOk r P) (sym is) tt

@@ -1,8 +1,12 @@
 -- Texts that are delivered to a writer, one after the other. `takes` relates the writer before a
 -- text that it took, the text, and the writer after it. `breaks` relates the same of a text that it
 -- did not take, or not all of it.
-use Rattle.std.specs.Prelude.{◌≡◌, ℕ, List, ◌++◌}
+use Rattle.std.specs.Prelude.{◌≡◌, ℕ, List, ◌++◌, Result, Ok, Err, IfErr, OnOk, String}
+use Rattle.std.specs.declared.alloc.Global.{Global}
+use Rattle.std.specs.declared.alloc.AllocError.{AllocError}
 use Rattle.std.specs.Fmt.{WritesInCalls}
+use Rattle.papergrid_draw.specs.Drawings.{Drawing}
+use Rattle.papergrid_draw.specs.Faults.{IsDrawFault}
 use Rattle.papergrid_draw.specs.declared.error.DrawError.{DrawError}
 use Rattle.papergrid_draw.specs.declared.error.DrawError.TheVariants.{Memory, NoRoom, NotTiled, OutOfTable, TooLarge, Write}
 
@@ -35,3 +39,16 @@ module _ {W : Type 0} where
   IsLeftOff takes breaks old bytes new (NotTiled p) = new ≡ old
   IsLeftOff takes breaks old bytes new (NoRoom p) = new ≡ old
   IsLeftOff takes breaks old bytes new TooLarge = new ≡ old
+
+  -- the bytes of a drawing are delivered, or why not all of them
+  pub record Draws (takes breaks : W → List ℕ → W → Type 0) (d : Drawing) (old new : W) (bytes : List ℕ)
+      {A : Type 0} (result : Result A DrawError) : Type 0 where
+    pub picture : OnOk result (WritesInCalls takes old bytes new)
+    pub fault : IfErr result (IsDrawFault d)
+    pub left : IfErr result (IsLeftOff takes breaks old bytes new)
+
+-- a string that was drawn to, or why not all was drawn. A write to a string fails only where an allocation does
+abbrev pub IsStringOf : {A : Type 0} → String Global → Result A DrawError → Result (String Global) DrawError → Type 0
+IsStringOf text (Ok x) result = result ≡ Ok text
+IsStringOf text (Err Write) result = (e : AllocError) × (result ≡ Err (Memory e))
+IsStringOf text (Err e) result = result ≡ Err e

@@ -7,7 +7,7 @@ pub mod cells;
 mod characters;
 mod color;
 mod crossings;
-mod delivery;
+pub mod delivery;
 mod error;
 pub mod laws;
 mod lines;

@@ -4,7 +4,7 @@ ghost use Rattle.std.specs.Prelude.{◌≡◌, ◌-◌, ◌^◌, ◌<◌, ◌≢
 ghost use Rattle.std.specs.Fmt.{WritesInCalls};
 ghost use Rattle.std.specs.List.{join_with_byte};
 ghost use Rattle.std.specs.Option.{SomeIff};
-ghost use Rattle.papergrid_draw.specs.Deliveries.{IsLeftOff};
+ghost use Rattle.papergrid_draw.specs.Deliveries.{Draws, IsLeftOff, IsStringOf};
 ghost use Rattle.papergrid_draw.specs.Drawings.{drawn_of};
 ghost use Rattle.papergrid_draw.specs.Drawn.{drawn_lines};
 ghost use Rattle.papergrid_draw.specs.Faults.{AllHaveRoom, IsDrawFault, whole_height};
@@ -12,7 +12,7 @@ ghost use Rattle.papergrid_draw.specs.Margins.{printed, printed_lines, whole_wid
 ghost use Rattle.papergrid_text.specs.Transfer.{IsTaken};
 ghost use Rattle.papergrid_draw.specs.Sinks.{IsCutOff};
 ghost use Rattle.papergrid_draw.specs.ForProofs.Pages.{Texts, drawing_of};
-ghost use Rattle.papergrid_draw.specs.ForProofs.Sheets.{Draws, Writes, WritesLines, margined};
+ghost use Rattle.papergrid_draw.specs.ForProofs.Sheets.{Writes, WritesLines, margined};
 ghost use Rattle.papergrid_draw.specs.declared.error.DrawError.TheVariants.{Memory, Write};
 
 use crate::delivery::{Delivery, ToSink, ToText};
@@ -104,15 +104,29 @@ where
     ensures works { IfErr result (λ e. e ≢ Write) }
 {
     let mut text = String::new(alloc);
-    match draw_text(alloc, table, cells, &mut text) {
+    let drawn = draw_text(alloc, table, cells, &mut text);
+    string_of(text, drawn)
+}
+
+/// A string that was drawn to, where all was drawn.
+///
+/// # Errors
+///
+/// As that of the drawing, but `Memory` for `Write`: a string takes each text that it has memory for.
+pub fn string_of(text: String, drawn: Result<(), DrawError>) -> Result<String, DrawError>
+    ensures { IsStringOf text drawn result }
+{
+    match drawn {
         Ok(()) => Ok(text),
         Err(DrawError::Write) => Err(DrawError::Memory(AllocError)),
         Err(error) => Err(error),
     }
 }
 
-/// Writes the picture of a table, by a way to deliver its lines.
-fn draw_by<'a, S: Cells, D: Delivery<W>, W>(
+/// Writes the picture of a table, by a way to deliver its lines: nothing of a table without rows or columns.
+///
+/// Condition and errors: as those of `draw_cells`.
+pub fn draw_by<'a, S: Cells, D: Delivery<W>, W>(
     alloc: Global,
     table: &'a Table<'a>,
     cells: &'a S,

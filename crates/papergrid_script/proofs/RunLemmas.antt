@@ -1,8 +1,9 @@
 -- What a run leaves, by what reading its input and writing its output leave.
-use Rattle.std.proofs.Common.{◌≡◌, ◌≢◌, ◌⊎◌, ◌∙◌, ℕ, Bool, false, true, List, Option, Vec, Global, inl, inr, refl}
+use Rattle.std.proofs.Common.{◌≡◌, ◌≢◌, ◌⊎◌, ◌∙◌, ℕ, Bool, false, true, List, Option, Result, Ok, Err, Vec, Global, inl, inr, refl}
 use Rattle.papergrid_text.specs.Transfer.{HasEnded, IsSteady}
 use Rattle.papergrid_script.specs.Inputs.{IsWholeInput}
-use Rattle.papergrid_script.specs.Runs.{HasRun, IsRunFault}
+use Rattle.papergrid_script.specs.Runs.{HasRun, IsRunFault, Runs}
+use Rattle.papergrid_script.specs.Writing.{WritesOutput}
 use Rattle.papergrid_script.specs.declared.reading.RunFault.{RunFault}
 use Rattle.papergrid_script.specs.declared.reading.RunFault.TheVariants.{Memory, Read, Write}
 
@@ -47,3 +48,46 @@ module _ {R W : Type 0} (remaining : R → Option (List ℕ)) (read_failed : R �
     writer_works = same.0 ∙ writer_works;
     writer_moves = same.1;
   }
+
+  -- ---- a run that writes an output by how it ends
+
+  module _ {E : Type 0} (IsOutput : E → List ℕ → Type 0) (MayBegin : List ℕ → Type 0) where
+    -- its input was not read
+    pub runs-unread : (fault : RunFault) → (fault ≡ Memory → read_failed reader_new ≡ read_failed reader_old) → (fault ≡ Read → read_failed reader_new ≡ true) → (fault ≡ Write → ⊥) →
+        Runs remaining read_failed contents has_failed has_stalled reader_old reader_new writer_old writer_old input_old input_old IsOutput MayBegin (Err fault)
+    runs-unread fault memory read never = record { written = tt; ran = tt; fault = fault-before fault memory read never; beginning = inl refl }
+
+    -- it was
+    pub runs-read : (MayWrite : E → Type 0) → ((end : E) → MayWrite end → (output : List ℕ) → IsOutput end output → MayBegin output) → (writer_new : W) (input_new : Vec ℕ Global) → read_failed reader_new ≡ read_failed reader_old → IsWholeInput (remaining reader_old) (remaining reader_new) input_new.items →
+        (result : Result E RunFault) → WritesOutput contents has_failed has_stalled MayWrite IsOutput writer_old writer_new result →
+        Runs remaining read_failed contents has_failed has_stalled reader_old reader_new writer_old writer_new input_old input_new IsOutput MayBegin result
+    runs-read MayWrite follows writer_new input_new works whole (Ok end) so = record {
+      written = (so.0, so.1, so.2.taken.bytes_are);
+      ran = has-run writer_new input_new works whole (so.2.taken.works, so.2.taken.moves);
+      fault = tt;
+      beginning = tt;
+    }
+    runs-read MayWrite follows writer_new input_new works whole (Err fault) so = record {
+      written = tt;
+      ran = tt;
+      fault = fault-after writer_new input_new works whole fault so.not_read so.write so.steady;
+      beginning = elim so.beginning [
+        | inl same ↦ inl same
+        | inr begun ↦ inr (begun.2.0, follows begun.0 begun.1 begun.2.0 begun.2.1, begun.2.2)
+      ];
+    }
+
+-- what is written, where another way to say it follows
+pub runs-also : {W E : Type 0} (contents : W → Option (List ℕ)) (has_failed has_stalled : W → Bool) (MayWrite : E → Type 0) (IsSo IsAlso : E → List ℕ → Type 0) →
+    ((end : E) (output : List ℕ) → IsSo end output → IsAlso end output) → (old new : W) (result : Result E RunFault) →
+    WritesOutput contents has_failed has_stalled MayWrite IsSo old new result → WritesOutput contents has_failed has_stalled MayWrite IsAlso old new result
+runs-also contents has_failed has_stalled MayWrite IsSo IsAlso follows old new (Ok end) so = (so.0, follows end so.0 so.1, so.2)
+runs-also contents has_failed has_stalled MayWrite IsSo IsAlso follows old new (Err fault) so = record {
+  not_read = so.not_read;
+  beginning = elim so.beginning [
+    | inl same ↦ inl same
+    | inr begun ↦ inr (begun.0, begun.1, (begun.2.0, follows begun.0 begun.2.0 begun.2.1, begun.2.2))
+  ];
+  write = so.write;
+  steady = so.steady;
+}

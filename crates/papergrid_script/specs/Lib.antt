@@ -14,4 +14,5 @@ pub mod Spelling
 pub mod Tells
 pub mod Texts
 pub mod Totals
+pub mod Writing
 pub mod ForProofs

@@ -1,7 +1,8 @@
 -- What a run leaves of its reader and its writer, and of the vector that keeps its input, apart from what it writes.
-use Rattle.std.specs.Prelude.{◌≡◌, ◌⊎◌, ℕ, Bool, false, true, List, Option, Vec}
+use Rattle.std.specs.Prelude.{◌≡◌, ◌⊎◌, ℕ, Bool, false, true, IfErr, IfOk, List, OnErr, OnOk, Option, Result, Vec}
+use Rattle.std.specs.Io.KnownBytes.{Appends}
 use Rattle.std.specs.declared.alloc.Global.{Global}
-use Rattle.papergrid_text.specs.Transfer.{HasEnded}
+use Rattle.papergrid_text.specs.Transfer.{HasBegun, HasEnded}
 use Rattle.papergrid_script.specs.Inputs.{IsWholeInput}
 use Rattle.papergrid_script.specs.declared.reading.RunFault.{RunFault}
 use Rattle.papergrid_script.specs.declared.reading.RunFault.TheVariants.{Memory, Read, Write}
@@ -41,3 +42,11 @@ module _ {R W : Type 0} (remaining : R → Option (List ℕ)) (read_failed : R �
   IsRunFault Read = HasReadFault
   IsRunFault Memory = HasMemoryFault
   IsRunFault Write = HasWriteFault
+
+  -- a run that writes an output by how it ends. Where it breaks off, a beginning of such a one may be written
+  pub record Runs {E : Type 0} (IsOutput : E → List ℕ → Type 0) (MayBegin : List ℕ → Type 0) (result : Result E RunFault) : Type 0 where
+    pub written : IfOk result (λ end. (output : List ℕ) × IsOutput end output × Appends (contents writer_old) (contents writer_new) output)
+    pub ran : OnOk result HasRun
+    pub fault : IfErr result IsRunFault
+    pub beginning : OnErr result ((writer_new ≡ writer_old)
+        ⊎ ((output : List ℕ) × MayBegin output × HasBegun contents has_failed has_stalled writer_old output writer_new))

@@ -1,11 +1,10 @@
 -- What calls that draw the table of a CSV text do to a writer.
-use Rattle.std.specs.Prelude.{◌≡◌, ◌≢◌, ◌⊎◌, ℕ, Bool, false, List, [], Option, None, Some, Result, Ok, Err, length}
+use Rattle.std.specs.Prelude.{◌≡◌, ℕ, Bool, false, List, [], Option, None, Some, Result, Ok, Err, length}
 use Rattle.papergrid_values.specs.declared.direction.Direction.TheVariants.{Columns}
 use Rattle.papergrid_values.specs.declared.position.Position.{Position}
 use Rattle.papergrid_config.specs.declared.setting.Setting.{Setting}
 use Rattle.papergrid_config.specs.declared.spanned.SpannedConfig.{SpannedConfig}
 use Rattle.papergrid_layout.specs.Places.{total_along}
-use Rattle.papergrid_text.specs.Transfer.{HasBegun, HasEnded, IsSteady, IsTaken}
 use Rattle.papergrid_draw.specs.Sinks.{IsRefusal}
 use Rattle.papergrid_draw.specs.Drawings.{Drawing, layout_of}
 use Rattle.papergrid_draw.specs.Faults.{IsDrawFault}
@@ -16,6 +15,7 @@ use Rattle.papergrid_draw.specs.Crossings.{FitCrossings, IsFitFault}
 use Rattle.papergrid_draw.specs.Lined.{lined}
 use Rattle.papergrid_draw.specs.declared.crossings.Junctions.{Junctions}
 use Rattle.papergrid_draw.specs.Pictures.{IsDrawingWith, IsFaultWith}
+use Rattle.papergrid_script.specs.Writing.{WritesOutput}
 use Rattle.papergrid_script.specs.declared.reading.RunFault.{RunFault}
 use Rattle.papergrid_script.specs.declared.reading.RunFault.TheVariants as run_faults
 use Rattle.papergrid_csv.specs.Judging.{IsFieldHidden, first_missing}
@@ -96,22 +96,10 @@ IsFitFaultOf (Some junctions) config shape e = IsFitFault config shape e
 
 -- ---- writers
 
--- a writer, by what it tells
-module _ {W : Type 0} (contents : W → Option (List ℕ)) (has_failed has_stalled : W → Bool) where
-  -- all of a text was taken; where nothing is drawn the writer is as it was
-  pub record IsWrittenAs (end : CsvEnd) (old new : W) (text : List ℕ) : Type 0 where
-    pub taken : IsTaken contents has_failed has_stalled old text new
-    pub silent : (end ≡ Drawn → ⊥) → new ≡ old
+-- a picture was written; at no other end anything is
+abbrev pub IsPictured : CsvEnd → Type 0
+IsPictured end = end ≡ Drawn
 
-  module _ (IsOutput : CsvEnd → List ℕ → Type 0) where
-    -- a run that broke off
-    pub record IsCsvBrokenOff (old new : W) (fault : RunFault) : Type 0 where
-      pub not_read : fault ≢ run_faults.Read
-      pub beginning : (new ≡ old) ⊎ ((output : List ℕ) × IsOutput Drawn output × HasBegun contents has_failed has_stalled old output new)
-      pub write : fault ≡ run_faults.Write → HasEnded contents has_failed has_stalled old new
-      pub steady : (fault ≡ run_faults.Write) ⊎ IsSteady contents has_failed has_stalled old new
-
-    -- a run wrote an output, and ended accordingly, or it broke off
-    abbrev pub RunsCsv : W → W → Result CsvEnd RunFault → Type 0
-    RunsCsv old new (Ok end) = (output : List ℕ) × IsOutput end output × IsWrittenAs end old new output
-    RunsCsv old new (Err fault) = IsCsvBrokenOff old new fault
+-- by what a writer tells: an output was written, of a run that ends accordingly, or it broke off
+abbrev pub RunsCsv : {W : Type 0} → (W → Option (List ℕ)) → (W → Bool) → (W → Bool) → (CsvEnd → List ℕ → Type 0) → W → W → Result CsvEnd RunFault → Type 0
+RunsCsv contents has_failed has_stalled = WritesOutput contents has_failed has_stalled IsPictured

@@ -1,5 +1,5 @@
 -- The lines of a table as they are written.
-use Rattle.std.specs.Prelude.{◌≡◌, ◌≢◌, ◌+◌, ◌<◌, ◌≤◌, ℕ, Bool, true, if◌then◌else◌, List, [], ◌∷◌, ◌++◌, Option, Result, Ok, Err, IfErr, OnOk, length, map, ⊤}
+use Rattle.std.specs.Prelude.{◌≡◌, ◌≢◌, ◌+◌, ◌<◌, ◌≤◌, ℕ, Bool, true, if◌then◌else◌, List, [], ◌∷◌, ◌++◌, Option, Result, Ok, Err, OnOk, length, map, ⊤}
 use Rattle.std.specs.Fmt.{WritesInCalls}
 use Rattle.std.specs.List.{enumerate_from, range_with_len}
 use Rattle.papergrid_values.specs.Positions.{IsBefore, position_of}
@@ -11,7 +11,7 @@ use Rattle.papergrid_draw.specs.Drawings.{Drawing, layout_of}
 use Rattle.papergrid_draw.specs.Drawn.{DrawnLine, TextLine, text_line}
 use Rattle.papergrid_draw.specs.Faults.{HasNoRoom, IsDrawFault}
 use Rattle.papergrid_draw.specs.Margins.{beside, with_margins}
-use Rattle.papergrid_draw.specs.Deliveries.{BreaksOff, IsLeftOff, TakesBeginning}
+use Rattle.papergrid_draw.specs.Deliveries.{BreaksOff, TakesBeginning}
 use Rattle.papergrid_draw.specs.Tiles.{IsFirstPosition}
 use Rattle.papergrid_draw.specs.ForProofs.Pages.{AreSlotsSet, AreSlots, Texts, row_start, text_start}
 use Rattle.papergrid_draw.specs.declared.error.DrawError.{DrawError}
@@ -121,11 +121,3 @@ module _ (d : Drawing) where
 -- why it is not drawn, before anything is written
 abbrev pub IsDrawRefusal : Drawing → DrawError → Type 0
 IsDrawRefusal d e = IsDrawFault d e × (e ≢ Write)
-
--- the bytes of a picture are written, or why not all of them, by the relations of texts that a writer takes and of
--- one that breaks off
-pub record Draws {W : Type 0} (takes breaks : W → List ℕ → W → Type 0) (d : Drawing) (old new : W)
-    (bytes : List ℕ) {A : Type 0} (result : Result A DrawError) : Type 0 where
-  pub picture : OnOk result (WritesInCalls takes old bytes new)
-  pub fault : IfErr result (IsDrawFault d)
-  pub left : IfErr result (IsLeftOff takes breaks old bytes new)

@@ -1,16 +1,14 @@
 use Rattle.std.proofs.Common.{◌≡◌, ◌∙◌, arith, inr, length, map, sym}
 use Rattle.std.proofs.lemmas.List.{length-map}
 use Rattle.std.proofs.lemmas.Result.{err_from_is_err_and}
-use Rattle.papergrid.proofs.GridLemmas.{at_exit}
 use Rattle.papergrid.proofs.equal_rows.compact_table.Goals as goal
 
 pub returns-in_err-height-clause-fault : goal.returns-in_err-height-clause-fault
 returns-in_err-height-clause-fault g c =
     let fault = c.in_err-height.ensures.fault in
     let count : c.len.result ≡ length c.in_ok-held.held.rows.items = omega arith in
-    at_exit c.from_residual-in_err-height.result _ _
-    (err_from_is_err_and c.from_residual-in_err-height.result c.from_residual-in_err-height.ensures.1)
-    (inr (
+    let p = err_from_is_err_and c.from_residual-in_err-height.result c.from_residual-in_err-height.ensures.1 in
+    rw (p.1, p.2) (inr (
       fault.0,
       record {
         config = c.in_ok-made.made;

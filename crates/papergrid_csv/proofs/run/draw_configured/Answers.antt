@@ -6,8 +6,8 @@ use Rattle.papergrid_walk.specs.Measures.{text_measure}
 use Rattle.papergrid_draw.specs.Pictures.{texts_drawing}
 use Rattle.papergrid_draw.proofs.PictureLemmas.{drawing-with, no-sizes-seen, room-with, sizes-seen, unless-also}
 use Rattle.papergrid_csv.specs.Rows.{row_texts}
-use Rattle.papergrid_csv.specs.ForProofs.Drawn.{IsConfigRun, IsTableRun, Sized}
-use Rattle.papergrid_csv.proofs.DrawLemmas.{runs-also}
+use Rattle.papergrid_csv.specs.ForProofs.Drawn.{IsConfigRun, IsPictured, IsTableRun, Sized}
+use Rattle.papergrid_script.proofs.RunLemmas.{runs-also}
 use Rattle.papergrid_csv.proofs.RunLemmas.{unsized-run}
 use Rattle.papergrid_csv.proofs.run.draw_configured.Goals as goal
 
@@ -45,5 +45,5 @@ returns-in-Ok g c =
     (sizes-seen (λ cell. cell.now.now) c.args.config.now _ told.0 texts same c.args.request.now.sizing _ _ told.2.1) in
     let drawn = drawing-with row_texts c.in-Ok.table c.args.config.now c.args.columns c.args.request.now.sizing c.args.rows.now c.args.rows.now told.2.0 refl sized in
     let d : Drawing = texts_drawing c.in-Ok.table.config texts c.in-Ok.table.widths c.in-Ok.table.heights in
-    runs-also g.W.Sink.contents g.W.Sink.has_failed g.W.Sink.has_stalled (IsTableRun c.args.request.now.max_width d) (IsConfigRun c.args.request.now c.args.columns texts c.args.config.now)
+    runs-also g.W.Sink.contents g.W.Sink.has_failed g.W.Sink.has_stalled IsPictured (IsTableRun c.args.request.now.max_width d) (IsConfigRun c.args.request.now c.args.columns texts c.args.config.now)
     (λ end output so. Sized d drawn so) c.args.writer.now c.draw_table.new.writer c.draw_table.result c.draw_table.ensures

@@ -1,8 +1,9 @@
 use Rattle.std.proofs.Common.{◌++◌, ℕ, [], length, map, refl}
 use Rattle.papergrid_config.specs.Laws.{IsConfiguredBy}
 use Rattle.papergrid_csv.specs.Rows.{row_texts}
-use Rattle.papergrid_csv.specs.ForProofs.Drawn.{Configured, Crossed, IsConfigRun, IsSettingsRun}
-use Rattle.papergrid_csv.proofs.DrawLemmas.{run-refused, runs-also}
+use Rattle.papergrid_csv.specs.ForProofs.Drawn.{Configured, Crossed, IsConfigRun, IsPictured, IsSettingsRun}
+use Rattle.papergrid_csv.proofs.DrawLemmas.{run-refused}
+use Rattle.papergrid_script.proofs.RunLemmas.{runs-also}
 use Rattle.papergrid_csv.proofs.RunLemmas.{fitted-of, unfitted-of}
 use Rattle.papergrid_csv.proofs.run.draw_records.Goals as goal
 
@@ -28,7 +29,7 @@ returns-in-Ok g c =
     let configured : IsConfiguredBy settings plain = record { told = told; effective = c.history_decides.ensures settings plain told } in
     let (fitted, are, appends) = c.in-Ok.ensures.ok in
     let all = appends settings told in
-    runs-also g.W.Sink.contents g.W.Sink.has_failed g.W.Sink.has_stalled
+    runs-also g.W.Sink.contents g.W.Sink.has_failed g.W.Sink.has_stalled IsPictured
     (IsConfigRun c.args.request.now c.args.columns (map row_texts c.args.rows.now) config)
     (IsSettingsRun c.args.request.now settings shape c.args.columns (map row_texts c.args.rows.now))
     (λ end output so. Configured config (record {

@@ -4,8 +4,9 @@ use Rattle.papergrid_csv.specs.Cutting.{IsCut}
 use Rattle.papergrid_csv.specs.Requests.{settings_of}
 use Rattle.papergrid_csv.specs.Rows.{row_texts, held_texts}
 use Rattle.papergrid_csv.specs.Shown.{AreCut}
-use Rattle.papergrid_csv.specs.ForProofs.Drawn.{IsRowsRun, IsSettingsRun, Kept}
-use Rattle.papergrid_csv.proofs.DrawLemmas.{run-silent, runs-also}
+use Rattle.papergrid_csv.specs.ForProofs.Drawn.{IsPictured, IsRowsRun, IsSettingsRun, Kept}
+use Rattle.papergrid_csv.proofs.DrawLemmas.{run-silent}
+use Rattle.papergrid_script.proofs.RunLemmas.{runs-also}
 use Rattle.papergrid_csv.proofs.RunLemmas.{rows-run-of}
 use Rattle.papergrid_csv.proofs.run.draw_rows.Goals as goal
 
@@ -17,7 +18,7 @@ returns-in-Some g c =
 pub returns-in-None : goal.returns-in-None
 returns-in-None g c =
     let rows = held_texts c.args.rows.now.rows in
-    runs-also g.W.Sink.contents g.W.Sink.has_failed g.W.Sink.has_stalled
+    runs-also g.W.Sink.contents g.W.Sink.has_failed g.W.Sink.has_stalled IsPictured
     (IsSettingsRun c.args.request.now (settings_of c.args.request.now c.args.rows.now.columns rows) (length c.deref.result.now, c.args.rows.now.columns) c.args.rows.now.columns (map row_texts c.deref.result.now))
     (IsRowsRun c.args.request.now c.args.rows.now.columns rows)
     (rows-run-of c.args.request.now c.args.rows.now.columns rows c.in_default.ensures c.args.rows.now.rows (subst (λ cut. AreCut cut rows rows) (sym c.in-None.is) refl)
@@ -29,7 +30,7 @@ returns-in_ok-shown-in-Some-cut g c =
     let rows = held_texts c.args.rows.now.rows in
     let shown = c.in_ok-shown-in-Some-cut.shown in
     let lent = c.deref-in-Some-cut-2.result.now in
-    runs-also g.W.Sink.contents g.W.Sink.has_failed g.W.Sink.has_stalled
+    runs-also g.W.Sink.contents g.W.Sink.has_failed g.W.Sink.has_stalled IsPictured
     (IsSettingsRun c.args.request.now (settings_of c.args.request.now c.args.rows.now.columns rows) (length lent, c.args.rows.now.columns) c.args.rows.now.columns (map row_texts lent))
     (IsRowsRun c.args.request.now c.args.rows.now.columns rows)
     (rows-run-of c.args.request.now c.args.rows.now.columns rows c.in_default.ensures shown

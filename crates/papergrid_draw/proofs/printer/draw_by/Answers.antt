@@ -2,7 +2,8 @@ use Rattle.std.proofs.Common.{◌≡◌, ◌==◌, Ok, false, ap, eq-eqb, inl, i
 use Rattle.std.proofs.Output.{writes_in_calls_nil}
 use Rattle.std.proofs.lemmas.Bool.Decides.{nat_tests}
 use Rattle.papergrid_draw.specs.Drawings.{drawn_of}
-use Rattle.papergrid_draw.specs.ForProofs.Sheets.{Draws, Writes}
+use Rattle.papergrid_draw.specs.Deliveries.{Draws}
+use Rattle.papergrid_draw.specs.ForProofs.Sheets.{Writes}
 use Rattle.papergrid_draw.proofs.DeliveryLemmas.{draws-written}
 use Rattle.papergrid_draw.proofs.PrinterLemmas.{printed-none, printed-some}
 use Rattle.papergrid_draw.proofs.printer.draw_by.Goals as goal

@@ -6,7 +6,7 @@ use Rattle.papergrid_layout.specs.Tables.{TableParts, view_of}
 use Rattle.papergrid_draw.specs.Drawings.{drawn_of}
 use Rattle.papergrid_draw.specs.Faults.{AllHaveRoom}
 use Rattle.papergrid_draw.specs.Margins.{printed_lines}
-use Rattle.papergrid_draw.specs.ForProofs.Sheets.{Draws}
+use Rattle.papergrid_draw.specs.Deliveries.{Draws}
 use Rattle.papergrid_draw.proofs.DeliveryLemmas.{draws-refused}
 use Rattle.papergrid_draw.proofs.RefusalLemmas.{memory-refusal, tile-refusal}
 use Rattle.papergrid_draw.proofs.printer.draw_table.Goals as goal
