@@ -7,13 +7,13 @@ use Rattle.papergrid_config.specs.Grids.{spanned_grid}
 use Rattle.papergrid_config.specs.declared.setting.Setting.{Setting}
 use Rattle.papergrid_config.specs.declared.spanned.SpannedConfig.{SpannedConfig}
 use Rattle.papergrid_walk.specs.Cells.{problem_of}
-use Rattle.papergrid_layout.specs.Answers.{AreBothLeast, AreBothSizes, AreSizesBy, AreTooLargeBy, HoldAlong, IsBothRefusedWhere, UnlessMemoryError}
+use Rattle.papergrid_layout.specs.Answers.{AreBothSizes, AreSizesBy, AreTooLargeBy, HoldAlong, IsBothRefusedWhere, UnlessMemoryError}
 use Rattle.papergrid_layout.specs.Certificates.{IsCertifiedBy, IsSolutionBy, solution_of}
 use Rattle.papergrid_layout.specs.Tables.{AreNoSizesBySizing, AreSizesBySizing, IsTableOf, TableParts, view_of}
 use Rattle.papergrid_layout.specs.declared.sizing.Sizing.{Sizing}
 use Rattle.papergrid_layout.specs.declared.sizing.Sizing.TheVariants.{ByShares, Least}
 use Rattle.papergrid_layout.specs.Places.{sized_table, total_along}
-use Rattle.papergrid_layout.proofs.PlaceLaws.{least-totals, totals}
+use Rattle.papergrid_layout.proofs.PlaceLaws.{totals}
 use Rattle.papergrid_maps.specs.Grids.{Grid}
 use Rattle.papergrid_tracks.specs.Problem.{Problem}
 use Rattle.papergrid_layout.proofs.Told.{problem_told}
@@ -127,15 +127,9 @@ module _ (rows : List (List (List ℕ))) (found : FoundTable) where
   told_total direction = total_along (sized_table grid found.along.columns.sizes found.along.rows.sizes (length rows, longest rows)) direction
 
   by-sizing : (sizing : Sizing) → AreFoundSizes rows sizing found → (found.along.columns.total ≡ told_total Columns) × (found.along.rows.total ≡ told_total Rows)
-  by-sizing ByShares are =
-      let sizes : AreBothSizes grid text_measure (longest rows) rows found.along.columns.sizes found.along.rows.sizes = record { widths = are.widths.sizes; heights = are.heights.sizes } in
-      let is = totals grid text_measure (longest rows) rows found.along.columns.sizes found.along.rows.sizes sizes in (
-        (is Columns found.along.columns.total).0 (record { sizes = found.along.columns.sizes; are_sizes = are.widths.sizes; adds_up = are.widths.total }),
-        (is Rows found.along.rows.total).0 (record { sizes = found.along.rows.sizes; are_sizes = are.heights.sizes; adds_up = are.heights.total }),
-      )
-  by-sizing Least are =
-      let sizes : AreBothLeast grid text_measure (longest rows) rows found.along.columns.sizes found.along.rows.sizes = record { widths = are.widths.sizes; heights = are.heights.sizes } in
-      let is = least-totals grid text_measure (longest rows) rows found.along.columns.sizes found.along.rows.sizes sizes in (
+  by-sizing sizing are =
+      let sizes : AreBothSizes grid text_measure (longest rows) rows sizing found.along.columns.sizes found.along.rows.sizes = record { widths = are.widths.sizes; heights = are.heights.sizes } in
+      let is = totals sizing grid text_measure (longest rows) rows found.along.columns.sizes found.along.rows.sizes sizes in (
         (is Columns found.along.columns.total).0 (record { sizes = found.along.columns.sizes; are_sizes = are.widths.sizes; adds_up = are.widths.total }),
         (is Rows found.along.rows.total).0 (record { sizes = found.along.rows.sizes; are_sizes = are.heights.sizes; adds_up = are.heights.total }),
       )

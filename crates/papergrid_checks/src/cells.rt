@@ -1,7 +1,8 @@
 //! Cells of one's own type.
 
 ghost use Rattle.std.specs.Prelude.{string_bytes};
-ghost use Rattle.papergrid_tracks.specs.Answers.{IsSized};
+ghost use Rattle.papergrid_layout.specs.Answers.{IsSized};
+ghost use Rattle.papergrid_layout.specs.declared.sizing.Sizing.TheVariants as sizings;
 ghost use Rattle.papergrid_values.specs.declared.direction.Direction.TheVariants.{Columns};
 ghost use Rattle.papergrid_walk.specs.Cells.{problem_of};
 ghost use Rattle.papergrid_config.specs.Grids.{spanned_grid};
@@ -40,7 +41,8 @@ pub fn of_people(
     config: &SpannedConfig,
 ) -> Result<Vec<usize>, LayoutError>
     ensures { let measure = line_measure (λ person. string_bytes person.name) in
-        IsSized (problem_of (spanned_grid config.now) measure columns (cells_of rows.now) Columns)
+        IsSized sizings.ByShares
+        (problem_of (spanned_grid config.now) measure columns (cells_of rows.now) Columns)
         result }
 {
     IterGridDimension::width(alloc, IterRecords::new(rows, columns, None), config)

@@ -1,7 +1,9 @@
 //! Certificates: made and checked, and those of a stranger.
 
 ghost use Rattle.std.specs.Prelude.{◌↔◌, IsTrue, MatchResult};
-ghost use Rattle.papergrid_tracks.specs.Answers.{IsAccepted, IsRefused};
+ghost use Rattle.papergrid_tracks.specs.Answers.{IsAccepted};
+ghost use Rattle.papergrid_layout.specs.Answers.{IsRefused};
+ghost use Rattle.papergrid_layout.specs.declared.sizing.Sizing.TheVariants as sizings;
 ghost use Rattle.papergrid_tracks.specs.Fits.{IsLeast};
 ghost use Rattle.papergrid_tracks.specs.Ranges.{IsLaminar};
 ghost use Rattle.papergrid_values.specs.declared.direction.Direction.TheVariants.{Columns};
@@ -28,7 +30,7 @@ pub fn is_certified(
 ) -> Result<bool, LayoutError>
     ensures { let problem = texts_problem config.now 3 rows.now Columns in
         MatchResult result (λ certified. IsTrue certified ↔ IsLaminar problem.demands)
-        (IsRefused problem) }
+        (IsRefused sizings.ByShares problem) }
 {
     let records = IterRecords::new(rows, 3, None);
     let widths = IterGridDimension::width(alloc, records, config)?;

@@ -1,9 +1,9 @@
 //! The other dimensions: cells that keep their lines, one setting for all cells, and least totals.
 
 ghost use Rattle.std.specs.Prelude.{◌≡◌, MatchResult, slice_index, string_bytes};
-ghost use Rattle.papergrid_tracks.specs.Answers.{IsRefused};
 ghost use Rattle.papergrid_tracks.specs.Sizes.{sizes_of};
-ghost use Rattle.papergrid_layout.specs.Answers.{AreBothLeast, AreBothSized, HaveNoLeast};
+ghost use Rattle.papergrid_layout.specs.Answers.{AreBothSized, IsRefused};
+ghost use Rattle.papergrid_layout.specs.declared.sizing.Sizing.TheVariants as sizings;
 ghost use Rattle.papergrid_text.specs.HeldRows.{column_count, rows_held};
 ghost use Rattle.papergrid_values.specs.declared.direction.Direction.TheVariants.{Columns};
 ghost use Rattle.papergrid_walk.specs.Cells.{problem_of};
@@ -29,7 +29,7 @@ pub fn of_measured(
     config: &SpannedConfig,
 ) -> Result<(Vec<usize>, Vec<usize>), LayoutError>
     ensures { AreBothSized (spanned_grid config.now) kept_measure (column_count records.now)
-        (cells_of (rows_held records.now).items) result }
+        (cells_of (rows_held records.now).items) sizings.ByShares result }
 {
     let mut dimension = PeekableGridDimension::new(alloc);
     dimension.estimate(records, config)?;
@@ -44,7 +44,8 @@ pub fn of_compact(
 ) -> Result<usize, LayoutError>
     ensures { let problem = problem_of (compact_grid config.now) (std_line_measure string_bytes) 3
         (cells_of rows.now) Columns in
-        MatchResult result (λ width. width ≡ slice_index (sizes_of problem) 0) (IsRefused problem) }
+        MatchResult result (λ width. width ≡ slice_index (sizes_of problem) 0)
+        (IsRefused sizings.ByShares problem) }
 {
     let mut dimension = CompactGridDimension::new(alloc);
     dimension.estimate(IterRecords::new(rows, 3, None), config)?;
@@ -58,9 +59,7 @@ pub fn of_crossing(
     config: &SpannedConfig,
 ) -> Result<(Vec<usize>, Vec<usize>), LayoutError>
     ensures { let grid = spanned_grid config.now in
-        MatchResult result
-        (λ sizes. AreBothLeast grid lent_measure 3 (cells_of rows.now) sizes.0.items sizes.1.items)
-        (HaveNoLeast grid lent_measure 3 (cells_of rows.now)) }
+        AreBothSized grid lent_measure 3 (cells_of rows.now) sizings.Least result }
 {
     let mut dimension = LeastGridDimension::new(alloc);
     dimension.estimate(IterRecords::new(rows, 3, None), config)?;

@@ -2,6 +2,7 @@
 
 ghost use Rattle.std.specs.Prelude.{◌≡◌, ◌∷◌, [], IfOk, map, string_bytes};
 ghost use Rattle.papergrid_layout.specs.Answers.{AreBothSized};
+ghost use Rattle.papergrid_layout.specs.declared.sizing.Sizing.TheVariants as sizings;
 ghost use Rattle.papergrid_config.specs.Grids.{spanned_grid};
 ghost use Rattle.papergrid_walk.specs.Measures.{line_measure};
 
@@ -37,7 +38,8 @@ pub fn of_entries(
     config: &SpannedConfig,
 ) -> Result<(Vec<usize>, Vec<usize>), LayoutError>
     ensures { AreBothSized (spanned_grid config.now) (line_measure (λ text. text)) 2
-        (map (λ entry. string_bytes entry.name ∷ string_bytes entry.note ∷ []) entries.now) result }
+        (map (λ entry. string_bytes entry.name ∷ string_bytes entry.note ∷ []) entries.now)
+        sizings.ByShares result }
 {
     let rows = rows_of(alloc, entries)?;
     let mut dimension = IterGridDimension::new(alloc);

@@ -4,6 +4,7 @@ ghost use Rattle.std.specs.Prelude.{◌≡◌, All, IfOk, List, length, true, �
 ghost use Rattle.papergrid_script.specs.Grids.{grid_of};
 ghost use Rattle.papergrid_config.specs.Applied.{is_in_range};
 ghost use Rattle.papergrid_layout.specs.Answers.{AreBothSizes};
+ghost use Rattle.papergrid_layout.specs.declared.sizing.Sizing.TheVariants as sizings;
 ghost use Rattle.papergrid_layout.specs.Places.{HasPlace, sized_table};
 ghost use Rattle.papergrid_config.specs.Grids.{spanned_grid};
 ghost use Rattle.papergrid_checks.specs.Rows.{cells_of, lent_measure};
@@ -27,7 +28,8 @@ pub fn place_in(
 ) -> Result<Place>
     ensures { let grid = spanned_grid config.now in
         IfOk result (λ place. (widths : List ℕ) × (heights : List ℕ)
-        × AreBothSizes grid lent_measure 3 (cells_of rows.now) widths heights
+        × AreBothSizes grid lent_measure 3 (cells_of rows.now)
+        sizings.ByShares widths heights
         × HasPlace (sized_table grid widths heights (length rows.now, 3)) position place) }
 {
     let mut sizes = IterGridDimension::new(alloc);
@@ -42,7 +44,8 @@ pub fn first_place(alloc: Global, settings: Vec<Setting>, rows: &[Vec<&str>]) ->
     requires { All (λ setting. is_in_range setting ≡ true) settings.items }
     ensures { let grid = grid_of settings.items in
         IfOk result (λ place. (widths : List ℕ) × (heights : List ℕ)
-        × AreBothSizes grid lent_measure 3 (cells_of rows.now) widths heights
+        × AreBothSizes grid lent_measure 3 (cells_of rows.now)
+        sizings.ByShares widths heights
         × HasPlace (sized_table grid widths heights (length rows.now, 3))
         (record { row = 0; col = 0 }) place) }
 {

@@ -2,6 +2,7 @@
 
 ghost use Rattle.std.specs.Prelude.{◌<◌, string_bytes};
 ghost use Rattle.papergrid_layout.specs.Answers.{AreBothSized};
+ghost use Rattle.papergrid_layout.specs.declared.sizing.Sizing.TheVariants as sizings;
 ghost use Rattle.papergrid_text.specs.Cut.{cut_rows};
 ghost use Rattle.papergrid_config.specs.Grids.{spanned_grid};
 ghost use Rattle.papergrid_walk.specs.Measures.{line_measure};
@@ -76,7 +77,7 @@ pub fn of_flat(
     config: &SpannedConfig,
 ) -> Result<(Vec<usize>, Vec<usize>), LayoutError>
     ensures { AreBothSized (spanned_grid config.now) (line_measure string_bytes) flat.now.columns
-        (cut_rows flat.now.columns flat.now.texts.items) result }
+        (cut_rows flat.now.columns flat.now.texts.items) sizings.ByShares result }
 {
     let mut dimension = IterGridDimension::new(alloc);
     dimension.estimate(flat, config)?;

@@ -1,10 +1,10 @@
 //! The sizes of a table of texts, and its totals.
 
 ghost use Rattle.std.specs.Prelude.{◌≡◌, ◌+◌, ◌≤◌, All, IfOk, List, MatchResult, ℕ, length, slice_index, sum};
-ghost use Rattle.papergrid_tracks.specs.Answers.{Answers, IsRefused, IsSized};
 ghost use Rattle.papergrid_tracks.specs.Fits.{Fits};
 ghost use Rattle.papergrid_tracks.specs.Sizes.{sizes_of};
-ghost use Rattle.papergrid_layout.specs.Answers.{AreBothSized, IsBothRefused, UnlessMemory};
+ghost use Rattle.papergrid_layout.specs.Answers.{Answers, AreBothSized, IsBothRefused, IsRefused, IsSized, UnlessMemory};
+ghost use Rattle.papergrid_layout.specs.declared.sizing.Sizing.TheVariants as sizings;
 ghost use Rattle.papergrid_values.specs.declared.direction.Direction.TheVariants.{Columns};
 ghost use Rattle.papergrid_walk.specs.Cells.{problem_of, side, visible_cells};
 ghost use Rattle.papergrid_config.specs.Grids.{spanned_grid};
@@ -26,7 +26,8 @@ pub fn sizes(
     rows: &[Vec<&str>],
     config: &SpannedConfig,
 ) -> Result<(Vec<usize>, Vec<usize>), LayoutError>
-    ensures { AreBothSized (spanned_grid config.now) lent_measure 3 (cells_of rows.now) result }
+    ensures { AreBothSized (spanned_grid config.now) lent_measure 3 (cells_of rows.now)
+        sizings.ByShares result }
 {
     let mut dimension = IterGridDimension::new(alloc);
     dimension.estimate(IterRecords::new(rows, 3, None), config)?;
@@ -41,7 +42,8 @@ pub fn first_width(
 ) -> Result<usize, LayoutError>
     ensures { let problem = texts_problem config.now 3 rows.now Columns in
         MatchResult result (λ width. width ≡ slice_index (sizes_of problem) 0)
-        (IsBothRefused (spanned_grid config.now) lent_measure 3 (cells_of rows.now)) }
+        (IsBothRefused (spanned_grid config.now) lent_measure 3 (cells_of rows.now)
+        sizings.ByShares) }
 {
     let mut dimension = IterGridDimension::new(alloc);
     dimension.estimate(IterRecords::new(rows, 3, None), config)?;
@@ -55,7 +57,7 @@ pub fn widths(
     columns: usize,
     config: &SpannedConfig,
 ) -> Result<Vec<usize>, LayoutError>
-    ensures exact { IsSized (texts_problem config.now columns rows.now Columns) result }
+    ensures exact { IsSized sizings.ByShares (texts_problem config.now columns rows.now Columns) result }
     ensures one_each { IfOk result (λ widths. length widths.items ≡ columns) }
 {
     IterGridDimension::width(alloc, IterRecords::new(rows, columns, None), config)
@@ -75,7 +77,8 @@ where
     ensures fits { let grid = spanned_grid config.now in
         let measure = line_measure R.Iter.Cell.text in
         UnlessMemory result (TellsRows R.tells records (λ cells.
-        Answers (λ problem total. (widths : List ℕ) × (sum widths ≤ total) × Fits problem widths)
+        Answers sizings.ByShares
+        (λ problem total. (widths : List ℕ) × (sum widths ≤ total) × Fits problem widths)
         (problem_of grid measure (R.columns records) cells Columns) result)) }
     ensures covers { let grid = spanned_grid config.now in
         let measure = line_measure R.Iter.Cell.text in
@@ -83,7 +86,8 @@ where
         MatchResult result (λ total. All (λ cell.
         side Columns (measure cell.1) + grid.before Columns cell.0 + grid.after Columns cell.0
         ≤ total) (visible_cells grid cells))
-        (IsRefused (problem_of grid measure (R.columns records) cells Columns)))) }
+        (IsRefused sizings.ByShares
+        (problem_of grid measure (R.columns records) cells Columns)))) }
 {
     total_covers_cells::<<<R as Records>::Iter as IntoRecords>::Cell>();
     IterGridDimension::width_total(alloc, records, config)

@@ -1,5 +1,5 @@
 -- The table of records by their sizes.
-use Rattle.std.proofs.Common.{◌≡◌, ℕ, ◌<◌, ◌≤◌, ◌⊎◌, inl, inr, List, length, refl, sym, subst, arith}
+use Rattle.std.proofs.Common.{ℕ, ◌<◌, inl, inr, List, refl, sym, subst, arith}
 use Rattle.std.specs.Prelude.{◌^◌, Result, Ok, Err}
 use Rattle.papergrid_values.specs.declared.direction.Direction.{Direction}
 use Rattle.papergrid_values.specs.declared.direction.Direction.TheVariants.{Columns, Rows}
@@ -7,24 +7,18 @@ use Rattle.papergrid_tracks.specs.declared.error.LayoutError.{LayoutError}
 use Rattle.papergrid_tracks.specs.declared.error.LayoutError.TheVariants as layout_error
 use Rattle.papergrid_config.specs.declared.spanned.SpannedConfig.{SpannedConfig}
 use Rattle.papergrid_config.specs.Grids.{spanned_grid}
-use Rattle.papergrid_layout.specs.Answers.{HoldAlong, UnlessMemory}
-use Rattle.papergrid_layout.specs.Laws.{HaveRoom}
+use Rattle.papergrid_layout.specs.Answers.{UnlessMemory}
 use Rattle.papergrid_layout.specs.Places.{sized_table, total_along}
 use Rattle.papergrid_layout.specs.Tables.{AreSizesBySizing, IsTable, IsTableOf, IsTotalTooLarge, TableParts, view_of}
 use Rattle.papergrid_layout.specs.declared.sizing.Sizing.{Sizing}
-use Rattle.papergrid_layout.specs.declared.sizing.Sizing.TheVariants.{ByShares, Least}
-use Rattle.papergrid_layout.proofs.PlaceLaws.{both-fit, least-have-room, shares-have-room}
+use Rattle.papergrid_layout.proofs.PlaceLaws.{both-fit, sizes-have-room}
 
 module _ {C : Type 0} (sizing : Sizing) (config : SpannedConfig) (measure : C → ℕ × ℕ) (columns : ℕ) (cells : List (List C)) (widths heights : List ℕ) where
-  have-room : (sizing : Sizing) → AreSizesBySizing config measure columns cells sizing widths heights → HoldAlong (spanned_grid config) measure columns cells HaveRoom widths heights
-  have-room ByShares are = shares-have-room (spanned_grid config) measure columns cells widths heights are
-  have-room Least are = least-have-room (spanned_grid config) measure columns cells widths heights are
-
   -- the totals of sizes that are chosen fit
   pub chosen-fit : AreSizesBySizing config measure columns cells sizing widths heights → (direction : Direction) →
       total_along (view_of (record { config = config; widths = widths; heights = heights })) direction < 2 ^ 64
   chosen-fit are direction =
-      let have = have-room sizing are in
+      let have = sizes-have-room sizing (spanned_grid config) measure columns cells widths heights are in
       subst (λ shape. total_along (sized_table (spanned_grid config) widths heights shape) direction < 2 ^ 64)
       (λ k. (sym have.heights.fits.one_each k, sym have.widths.fits.one_each k))
       (both-fit (spanned_grid config) measure columns cells widths heights have direction)

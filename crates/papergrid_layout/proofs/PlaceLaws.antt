@@ -11,17 +11,19 @@ use Rattle.papergrid_values.specs.declared.direction.Direction.{Direction}
 use Rattle.papergrid_values.specs.declared.direction.Direction.TheVariants.{Columns, Rows}
 use Rattle.papergrid_values.specs.Positions.{along}
 use Rattle.papergrid_tracks.specs.declared.demand.Demand.{Demand}
-use Rattle.papergrid_tracks.specs.Answers.{AreSizes, IsTotal, IsTotalBy}
+use Rattle.papergrid_tracks.specs.Answers.{AreSizes, IsTotalBy}
 use Rattle.papergrid_tracks.specs.Fits.{HasRoom, range_sum}
 use Rattle.papergrid_tracks.specs.Problem.{Problem, total_of}
 use Rattle.papergrid_tracks.specs.Ranges.{end_of, first_out, inner_lines, place_of}
 use Rattle.papergrid_tracks.proofs.OutLemmas.{if_none}
-use Rattle.papergrid_tracks.specs.LeastAnswers.{AreLeastSizes, IsLeastTotal}
+use Rattle.papergrid_tracks.specs.LeastAnswers.{AreLeastSizes}
 use Rattle.papergrid_maps.proofs.HiddenLemmas.{position-same}
 use Rattle.papergrid_tracks.proofs.LeastLemmas.{exact-least}
 use Rattle.papergrid_walk.specs.Cells.{demand_by, positioned_cells, problem_of, side, visible_cells}
 use Rattle.papergrid_maps.specs.Grids.{Grid}
-use Rattle.papergrid_layout.specs.Answers.{AreBothLeast, AreBothSizes, HoldAlong}
+use Rattle.papergrid_layout.specs.Answers.{AreBothSizes, AreSizesBy, HoldAlong, IsTotal}
+use Rattle.papergrid_layout.specs.declared.sizing.Sizing.{Sizing}
+use Rattle.papergrid_layout.specs.declared.sizing.Sizing.TheVariants.{ByShares, Least}
 use Rattle.papergrid_layout.specs.Laws.{HaveRoom}
 use Rattle.papergrid_layout.specs.Places.{DoNotMeet, HasRoomAtPlace, HaveNoneInCommon, IsInsideTable, IsPlaced, StandsOver, TableView, extent, offset, place_at, sized_table, sum_from, total, total_along}
 use Rattle.papergrid_layout.specs.declared.rect.PlaceError.TheVariants.{TooLarge}
@@ -140,11 +142,9 @@ total-by problem holds sizes are only many answer = (
   λ e. record { sizes = sizes; are_sizes = are; adds_up = e ∙ total-told problem sizes many },
 )
 
-total-shares : (problem : Problem) (sizes : List ℕ) → AreSizes problem sizes → (answer : ℕ) → IsTotal problem answer ↔ (answer ≡ total (slice_index sizes) problem.line problem.count)
-total-shares problem sizes are = total-by problem (AreSizes problem) sizes are (λ other is. is.exact ∙ sym are.exact) are.fits.one_each
-
-total-least : (problem : Problem) (sizes : List ℕ) → AreLeastSizes problem sizes → (answer : ℕ) → IsLeastTotal problem answer ↔ (answer ≡ total (slice_index sizes) problem.line problem.count)
-total-least problem sizes are = total-by problem (AreLeastSizes problem) sizes are (λ other is. exact-least problem other is ∙ sym (exact-least problem sizes are)) are.least.fits.one_each
+total-sizes : (sizing : Sizing) (problem : Problem) (sizes : List ℕ) → AreSizesBy sizing problem sizes → (answer : ℕ) → IsTotal sizing problem answer ↔ (answer ≡ total (slice_index sizes) problem.line problem.count)
+total-sizes ByShares problem sizes are = total-by problem (AreSizes problem) sizes are (λ other is. is.exact ∙ sym are.exact) are.fits.one_each
+total-sizes Least problem sizes are = total-by problem (AreLeastSizes problem) sizes are (λ other is. exact-least problem other is ∙ sym (exact-least problem sizes are)) are.least.fits.one_each
 
 -- ---- room
 
@@ -156,28 +156,22 @@ extent-room line sizes d le room =
     let minimum : d.minimum ≤ range_sum sizes d + inner_lines line d = room in
     omega arith
 
-module _ {C : Type 0} (grid : Grid) (measure : C → ℕ × ℕ) (columns : ℕ) (cells : List (List C)) (widths heights : List ℕ) where
-  pub shares-have-room : AreBothSizes grid measure columns cells widths heights → HoldAlong grid measure columns cells HaveRoom widths heights
-  shares-have-room are = record {
-    widths = record { none_out = are.widths.none_out; fits = are.widths.fits; total = are.widths.total };
-    heights = record { none_out = are.heights.none_out; fits = are.heights.fits; total = are.heights.total };
+-- sizes that are chosen so have room
+room-of : (sizing : Sizing) (problem : Problem) (sizes : List ℕ) → AreSizesBy sizing problem sizes → HaveRoom problem sizes
+room-of ByShares problem sizes are = record { none_out = are.none_out; fits = are.fits; total = are.total }
+room-of Least problem sizes are = record { none_out = are.none_out; fits = are.least.fits; total = are.total }
+
+module _ {C : Type 0} (sizing : Sizing) (grid : Grid) (measure : C → ℕ × ℕ) (columns : ℕ) (cells : List (List C)) (widths heights : List ℕ) where
+  pub sizes-have-room : AreBothSizes grid measure columns cells sizing widths heights → HoldAlong grid measure columns cells HaveRoom widths heights
+  sizes-have-room are = record {
+    widths = room-of sizing (problem_of grid measure columns cells Columns) widths are.widths;
+    heights = room-of sizing (problem_of grid measure columns cells Rows) heights are.heights;
   }
 
-  pub least-have-room : AreBothLeast grid measure columns cells widths heights → HoldAlong grid measure columns cells HaveRoom widths heights
-  least-have-room are = record {
-    widths = record { none_out = are.widths.none_out; fits = are.widths.least.fits; total = are.widths.total };
-    heights = record { none_out = are.heights.none_out; fits = are.heights.least.fits; total = are.heights.total };
-  }
-
-  pub totals : AreBothSizes grid measure columns cells widths heights → (direction : Direction) (answer : ℕ) → IsTotal (problem_of grid measure columns cells direction) answer
+  pub totals : AreBothSizes grid measure columns cells sizing widths heights → (direction : Direction) (answer : ℕ) → IsTotal sizing (problem_of grid measure columns cells direction) answer
       ↔ (answer ≡ total_along (sized_table grid widths heights (length cells, columns)) direction)
-  totals are Columns answer = total-shares (problem_of grid measure columns cells Columns) widths are.widths answer
-  totals are Rows answer = total-shares (problem_of grid measure columns cells Rows) heights are.heights answer
-
-  pub least-totals : AreBothLeast grid measure columns cells widths heights → (direction : Direction) (answer : ℕ) → IsLeastTotal (problem_of grid measure columns cells direction) answer
-      ↔ (answer ≡ total_along (sized_table grid widths heights (length cells, columns)) direction)
-  least-totals are Columns answer = total-least (problem_of grid measure columns cells Columns) widths are.widths answer
-  least-totals are Rows answer = total-least (problem_of grid measure columns cells Rows) heights are.heights answer
+  totals are Columns answer = total-sizes sizing (problem_of grid measure columns cells Columns) widths are.widths answer
+  totals are Rows answer = total-sizes sizing (problem_of grid measure columns cells Rows) heights are.heights answer
 
 module _ {C : Type 0} (grid : Grid) (measure : C → ℕ × ℕ) (columns : ℕ) (cells : List (List C)) (widths heights : List ℕ)
     (have : HoldAlong grid measure columns cells HaveRoom widths heights) where

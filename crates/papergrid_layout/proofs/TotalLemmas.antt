@@ -5,14 +5,15 @@ use Rattle.std.proofs.lemmas.Bool.{ltb-false}
 use Rattle.std.proofs.lemmas.List.Elements.{All-cons, All-head, All-nil, All-tail}
 use Rattle.papergrid_values.specs.declared.position.Position.{Position}
 use Rattle.papergrid_values.specs.declared.direction.Direction.{Direction}
-use Rattle.papergrid_tracks.specs.Answers.{IsTotal}
 use Rattle.papergrid_tracks.specs.Fits.{Fits, HasRoom}
 use Rattle.papergrid_tracks.specs.Problem.{Problem, total_of}
 use Rattle.papergrid_values.specs.Lines.{all_lines}
 use Rattle.papergrid_tracks.specs.Ranges.{end_of, first_out, place_of}
 use Rattle.papergrid_tracks.proofs.LoopLemmas.{minimum_within_total}
 use Rattle.papergrid_tracks.proofs.OutLemmas.{if_none}
-use Rattle.papergrid_tracks.specs.LeastAnswers.{IsLeastTotal}
+use Rattle.papergrid_layout.specs.Answers.{IsTotal}
+use Rattle.papergrid_layout.specs.declared.sizing.Sizing.{Sizing}
+use Rattle.papergrid_layout.specs.declared.sizing.Sizing.TheVariants.{ByShares, Least}
 use Rattle.papergrid_walk.specs.Cells.{demand_by, problem_of, side, visible_cells}
 use Rattle.papergrid_maps.specs.Grids.{Grid}
 
@@ -38,10 +39,8 @@ module _ {C : Type 0} (grid : Grid) (measure : C → ℕ × ℕ) (columns : ℕ)
   pub fitting_covers : (sizes : List ℕ) → first_out problem.count problem.demands ≡ None → Fits problem sizes → All (MinimumsAtMost (total_of problem sizes)) (visible_cells grid cells)
   fitting_covers sizes none fits = each_within sizes (total_of problem sizes) (omega arith) (visible_cells grid cells) none fits.room
 
-  pub total_covers : (total : ℕ) → IsTotal problem total → All (MinimumsAtMost total) (visible_cells grid cells)
-  total_covers total is =
+  pub total_covers : (sizing : Sizing) (total : ℕ) → IsTotal sizing problem total → All (MinimumsAtMost total) (visible_cells grid cells)
+  total_covers ByShares total is =
       subst (λ n. All (MinimumsAtMost n) (visible_cells grid cells)) (sym is.adds_up) (fitting_covers is.sizes is.are_sizes.none_out is.are_sizes.fits)
-
-  pub least_total_covers : (total : ℕ) → IsLeastTotal problem total → All (MinimumsAtMost total) (visible_cells grid cells)
-  least_total_covers total is =
+  total_covers Least total is =
       subst (λ n. All (MinimumsAtMost n) (visible_cells grid cells)) (sym is.adds_up) (fitting_covers is.sizes is.are_sizes.none_out is.are_sizes.least.fits)

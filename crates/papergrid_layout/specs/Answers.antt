@@ -5,7 +5,7 @@ use Rattle.papergrid_values.specs.declared.position.Position.{Position}
 use Rattle.papergrid_values.specs.declared.direction.Direction.TheVariants.{Columns, Rows}
 use Rattle.papergrid_tracks.specs.declared.error.LayoutError.{LayoutError}
 use Rattle.papergrid_tracks.specs.declared.error.LayoutError.TheVariants.{OutOfTable, TooLarge, Memory}
-use Rattle.papergrid_tracks.specs.Answers.{AreSizes, AreSizesTooLarge}
+use Rattle.papergrid_tracks.specs.Answers.{AnswersWhere, AreSizes, AreSizesTooLarge, IsRefusedWhere, IsTotalBy}
 use Rattle.papergrid_tracks.specs.Problem.{Problem}
 use Rattle.papergrid_tracks.specs.LeastAnswers.{AreLeastSizes, AreLeastTooLarge}
 use Rattle.papergrid_walk.specs.Cells.{problem_of, visible_cells}
@@ -34,6 +34,22 @@ abbrev pub AreTooLargeBy : Sizing → Problem → Type 0
 AreTooLargeBy ByShares = AreSizesTooLarge
 AreTooLargeBy Least = AreLeastTooLarge
 
+-- what is asked for of a problem whose sizes are chosen so, or why there is none
+abbrev pub Answers : {A : Type 0} → Sizing → (Problem → A → Type 0) → Problem → Result A LayoutError → Type 0
+Answers sizing holds problem result = AnswersWhere (AreTooLargeBy sizing) holds problem result
+
+-- the sizes, or why there are none
+abbrev pub IsSized : {Z : Type 0} → Sizing → Problem → Result (Vec ℕ Z) LayoutError → Type 0
+IsSized {Z} sizing problem result = Answers sizing (λ p (sizes : Vec ℕ Z). AreSizesBy sizing p sizes.items) problem result
+
+-- their sum, with all lines
+abbrev pub IsTotal : Sizing → Problem → ℕ → Type 0
+IsTotal sizing problem total = IsTotalBy problem (AreSizesBy sizing problem) total
+
+-- why there are none
+abbrev pub IsRefused : Sizing → Problem → LayoutError → Type 0
+IsRefused sizing problem e = IsRefusedWhere problem (AreTooLargeBy sizing problem) e
+
 module _ {C : Type 0} (grid : Grid) (measure : C → ℕ × ℕ) (columns : ℕ) (cells : List (List C)) where
   -- the cell at a position overflows the table, along columns or along rows
   abbrev pub overflows : Position → Bool
@@ -48,13 +64,9 @@ module _ {C : Type 0} (grid : Grid) (measure : C → ℕ × ℕ) (columns : ℕ)
     pub widths : holds (problem_of grid measure columns cells Columns) across
     pub heights : holds (problem_of grid measure columns cells Rows) down
 
-  -- exactly the widths and the heights, and what holds of them
-  abbrev pub AreBothSizes : List ℕ → List ℕ → Type 0
-  AreBothSizes wide high = HoldAlong AreSizes wide high
-
-  -- exactly the least widths and heights, and what holds of them
-  abbrev pub AreBothLeast : List ℕ → List ℕ → Type 0
-  AreBothLeast wide high = HoldAlong AreLeastSizes wide high
+  -- exactly the widths and the heights that are chosen so, and what holds of them
+  abbrev pub AreBothSizes : Sizing → List ℕ → List ℕ → Type 0
+  AreBothSizes sizing wide high = HoldAlong (AreSizesBy sizing) wide high
 
   -- out of the table by the first cell that overflows it, else too large along one direction, of which this is known.
   -- An allocation may fail in place of any answer
@@ -64,13 +76,9 @@ module _ {C : Type 0} (grid : Grid) (measure : C → ℕ × ℕ) (columns : ℕ)
       × (too_large (problem_of grid measure columns cells Columns) ⊎ too_large (problem_of grid measure columns cells Rows))
   IsBothRefusedWhere too_large (Memory e) = ⊤
 
-  -- the same, where the sizes along that direction are too large
-  abbrev pub IsBothRefused : LayoutError → Type 0
-  IsBothRefused e = IsBothRefusedWhere AreSizesTooLarge e
-
-  -- the same, where all sizes that fit are too large along that direction
-  abbrev pub HaveNoLeast : LayoutError → Type 0
-  HaveNoLeast e = IsBothRefusedWhere AreLeastTooLarge e
+  -- the same, where sizes are chosen so
+  abbrev pub IsBothRefused : Sizing → LayoutError → Type 0
+  IsBothRefused sizing e = IsBothRefusedWhere (AreTooLargeBy sizing) e
 
   -- what is found along both directions, or why there is none
   abbrev pub AnswersBothWhere : {A : Type 0} → (Problem → Type 0) → (Problem → A → Type 0) → Result (PerDirection A) LayoutError → Type 0
@@ -78,5 +86,5 @@ module _ {C : Type 0} (grid : Grid) (measure : C → ℕ × ℕ) (columns : ℕ)
   AnswersBothWhere too_large holds (Err e) = IsBothRefusedWhere too_large e
 
   -- the widths and the heights, or why there are none
-  abbrev pub AreBothSized : {Z : Type 0} → Result (Vec ℕ Z × Vec ℕ Z) LayoutError → Type 0
-  AreBothSized result = MatchResult result (λ found. AreBothSizes found.0.items found.1.items) IsBothRefused
+  abbrev pub AreBothSized : {Z : Type 0} → Sizing → Result (Vec ℕ Z × Vec ℕ Z) LayoutError → Type 0
+  AreBothSized sizing result = MatchResult result (λ found. AreBothSizes sizing found.0.items found.1.items) (IsBothRefused sizing)

@@ -1,8 +1,9 @@
 -- What certificates and checkers say of the rows told.
-use Rattle.std.specs.Prelude.{◌≡◌, ◌↔◌, ℕ, Bool, IsTrue, if◌then◌else◌, List, map, Option, Some, None, option_map, Vec}
+use Rattle.std.specs.Prelude.{◌≡◌, ◌↔◌, ℕ, Bool, IsTrue, if◌then◌else◌, List, map, Option, Some, None, option_map, Result, Vec}
 use Rattle.std.specs.declared.alloc.Global.{Global}
 use Rattle.papergrid_values.specs.declared.position.Position.{Position}
 use Rattle.papergrid_values.specs.declared.per_direction.PerDirection.{PerDirection}
+use Rattle.papergrid_tracks.specs.declared.error.LayoutError.{LayoutError}
 use Rattle.papergrid_tracks.specs.declared.solution.Solved.{Solved}
 use Rattle.papergrid_tracks.specs.Answers.{AreCertifying, IsAccepted, NoneCertify}
 use Rattle.papergrid_tracks.specs.Certificates.{certificate_cells_of}
@@ -12,7 +13,7 @@ use Rattle.papergrid_tracks.specs.Problem.{Problem, total_of}
 use Rattle.papergrid_tracks.specs.Ranges.{place_of}
 use Rattle.papergrid_tracks.specs.LeastAnswers.{AreCriticalPath}
 use Rattle.papergrid_maps.specs.Grids.{Grid}
-use Rattle.papergrid_layout.specs.Answers.{AreSizesBy, HoldAlong}
+use Rattle.papergrid_layout.specs.Answers.{Answers, AreSizesBy, HoldAlong}
 use Rattle.papergrid_layout.specs.declared.sizing.Sizing.{Sizing}
 use Rattle.papergrid_layout.specs.declared.sizing.Sizing.TheVariants.{ByShares, Least}
 
@@ -36,6 +37,10 @@ IsCertificateBy ByShares problem None = NoneCertify problem
 IsCertificateBy ByShares problem (Some places) = AreCertifying problem places
 IsCertificateBy Least problem None = ⊥
 IsCertificateBy Least problem (Some places) = AreCriticalPath problem places
+
+-- the positions of the cells that certify least sizes, or why there are none
+abbrev pub IsLeastCertified : {Z : Type 0} → Problem → Result (Vec Position Z) LayoutError → Type 0
+IsLeastCertified {Z} problem result = Answers Least (λ p (places : Vec Position Z). AreCriticalPath p places.items) problem result
 
 -- what is found along a direction: the sizes, their total with all lines, and the positions of the cells that certify
 -- them, if there are such

@@ -7,8 +7,7 @@ use Rattle.papergrid_tracks.specs.declared.error.LayoutError.{LayoutError}
 use Rattle.papergrid_tracks.specs.declared.error.LayoutError.TheVariants as layout_error
 use Rattle.papergrid_config.specs.declared.spanned.SpannedConfig.{SpannedConfig}
 use Rattle.papergrid_config.specs.Grids.{spanned_grid}
-use Rattle.papergrid_maps.specs.Grids.{Grid}
-use Rattle.papergrid_layout.specs.Answers.{AreSizesBy, AreTooLargeBy, HoldAlong, IsBothRefusedWhere, UnlessMemoryError}
+use Rattle.papergrid_layout.specs.Answers.{AreBothSizes, IsBothRefused, UnlessMemoryError}
 use Rattle.papergrid_layout.specs.Places.{ArePlacesRefused, IsPlaced, TableView, line_offset, sized_table, total_along, track_count, track_line, track_size}
 use Rattle.papergrid_layout.specs.declared.rect.Place.{Place}
 use Rattle.papergrid_layout.specs.declared.rect.PlaceError.{PlaceError}
@@ -37,11 +36,11 @@ IsTable parts (Err e) = UnlessMemoryError e ((e ≡ layout_error.TooLarge) × Is
 module _ {C : Type 0} (config : SpannedConfig) (measure : C → ℕ × ℕ) (columns : ℕ) (cells : List (List C)) where
   -- these widths and heights are chosen so
   abbrev pub AreSizesBySizing : Sizing → List ℕ → List ℕ → Type 0
-  AreSizesBySizing sizing widths heights = HoldAlong (spanned_grid config) measure columns cells (AreSizesBy sizing) widths heights
+  AreSizesBySizing sizing widths heights = AreBothSizes (spanned_grid config) measure columns cells sizing widths heights
 
   -- why there are none
   abbrev pub AreNoSizesBySizing : Sizing → LayoutError → Type 0
-  AreNoSizesBySizing sizing e = IsBothRefusedWhere (spanned_grid config) measure columns cells (AreTooLargeBy sizing) e
+  AreNoSizesBySizing sizing e = IsBothRefused (spanned_grid config) measure columns cells sizing e
 
   -- the table of these cells by the configuration, or why there is none
   abbrev pub IsTableOf : Sizing → Result TableParts LayoutError → Type 0

@@ -1,14 +1,15 @@
 //! What is found along one direction.
 
-ghost use Rattle.std.specs.Prelude.{◌≡◌};
-ghost use Rattle.papergrid_tracks.specs.Answers.{AnswersWhere, IsSized};
+ghost use Rattle.std.specs.Prelude.{◌≡◌, Vec, ℕ};
+ghost use Rattle.std.specs.declared.alloc.Global.{Global};
+ghost use Rattle.papergrid_tracks.specs.Answers.{AnswersWhere, IsSolvedBy, IsTotalBy};
 ghost use Rattle.papergrid_walk.specs.Cells.{count_along, problem_of};
 ghost use Rattle.papergrid_layout.specs.Answers.{UnlessMemory};
 ghost use Rattle.papergrid_text.specs.Records.{TellsRows};
 
 use papergrid_maps::ConfigView;
 use papergrid_text::{IntoRecords, Records};
-use papergrid_tracks::{Axis, ByShares, LayoutError, Solved, Solver};
+use papergrid_tracks::{Axis, LayoutError, Solved, Solver};
 use papergrid_values::{Direction, Position};
 use papergrid_walk::{Measure, gather};
 use std::alloc::Global;
@@ -64,7 +65,8 @@ where
     <<R as Records>::Iter as IntoRecords>::Cell: Drop,
     requires { R.is_lawful records }
     ensures { UnlessMemory result (TellsRows R.tells records (λ cells.
-        AnswersWhere T.too_large (T.solves certify) (problem_of (S.grid settings.now) M.measured
+        AnswersWhere T.too_large (IsSolvedBy T.are_sizes T.certifies certify)
+        (problem_of (S.grid settings.now) M.measured
         (R.columns records) cells direction) result)) }
 {
     let columns = records.count_columns();
@@ -78,12 +80,12 @@ where
     T::solve(alloc, count, &kept, &axis, certify)
 }
 
-/// The sizes of the records along a direction, by shares.
+/// The sizes of the records along a direction.
 ///
 /// # Errors
 ///
 /// As those of `solve_along`.
-pub fn sizes_along<M, R: Records + Drop, S: ConfigView>(
+pub fn sizes_along<T: Solver, M, R: Records + Drop, S: ConfigView>(
     alloc: Global,
     records: R,
     settings: &S,
@@ -93,10 +95,35 @@ where
     M: Measure<<<R as Records>::Iter as IntoRecords>::Cell>,
     <<R as Records>::Iter as IntoRecords>::Cell: Drop,
     requires { R.is_lawful records }
-    ensures { UnlessMemory result (TellsRows R.tells records (λ cells.
-        IsSized (problem_of (S.grid settings.now) M.measured
+    ensures { UnlessMemory result (TellsRows R.tells records (λ cells. AnswersWhere T.too_large
+        (λ problem (sizes : Vec ℕ Global). T.are_sizes problem sizes.items)
+        (problem_of (S.grid settings.now) M.measured
         (R.columns records) cells direction) result)) }
 {
-    let found = solve_along::<ByShares, M, R, S>(alloc, records, settings, direction, false)?;
+    let found = solve_along::<T, M, R, S>(alloc, records, settings, direction, false)?;
     Ok(found.sizes)
+}
+
+/// Their sum, with the lines.
+///
+/// # Errors
+///
+/// As those of `solve_along`.
+pub fn total_along<T: Solver, M, R: Records + Drop, S: ConfigView>(
+    alloc: Global,
+    records: R,
+    settings: &S,
+    direction: Direction,
+) -> Result<usize, LayoutError>
+where
+    M: Measure<<<R as Records>::Iter as IntoRecords>::Cell>,
+    <<R as Records>::Iter as IntoRecords>::Cell: Drop,
+    requires { R.is_lawful records }
+    ensures { UnlessMemory result (TellsRows R.tells records (λ cells. AnswersWhere T.too_large
+        (λ problem. IsTotalBy problem (T.are_sizes problem))
+        (problem_of (S.grid settings.now) M.measured
+        (R.columns records) cells direction) result)) }
+{
+    let found = solve_along::<T, M, R, S>(alloc, records, settings, direction, false)?;
+    Ok(found.total)
 }

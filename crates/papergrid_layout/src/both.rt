@@ -1,6 +1,7 @@
 //! What is found along both directions.
 
 ghost use Rattle.std.specs.Prelude.{◌≡◌, List, length};
+ghost use Rattle.papergrid_tracks.specs.Answers.{IsSolvedBy};
 ghost use Rattle.papergrid_tracks.specs.Ranges.{first_out};
 ghost use Rattle.papergrid_walk.specs.ForProofs.Pairs.{AreBothGathered};
 ghost use Rattle.papergrid_walk.specs.Measures.{line_measure};
@@ -67,7 +68,7 @@ fn conclude<T: Solver, M: Measure<C>, C, S: ConfigView>(
     ensures { (cells : List (List C)) → rows ≡ length cells →
         AreBothGathered (S.grid settings.now) M.measured columns cells both.now →
         AnswersBothWhere (S.grid settings.now) M.measured columns cells T.too_large
-        (T.solves certify) result }
+        (IsSolvedBy T.are_sizes T.certifies certify) result }
 {
     if let Some(position) = find_out_of_both(columns, rows, both) {
         return Err(LayoutError::OutOfTable(position));
@@ -112,7 +113,8 @@ where
     requires { R.is_lawful records }
     ensures { UnlessMemory result (TellsRows R.tells records (λ cells.
         AnswersBothWhere (S.grid settings.now) M.measured
-        (R.columns records) cells T.too_large (T.solves certify) result)) }
+        (R.columns records) cells T.too_large
+        (IsSolvedBy T.are_sizes T.certifies certify) result)) }
 {
     let columns = records.count_columns();
     let (both, rows) = gather_both::<M, R, S>(alloc, records, settings)?;

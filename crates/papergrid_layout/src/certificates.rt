@@ -2,13 +2,13 @@
 //! checkers of such cells.
 
 ghost use Rattle.papergrid_values.specs.declared.direction.Direction.TheVariants.{Columns, Rows};
-ghost use Rattle.papergrid_tracks.specs.Answers.{Answers, IsCertificateOrNone};
-ghost use Rattle.papergrid_tracks.specs.LeastAnswers.{IsLeastCertified};
+ghost use Rattle.papergrid_tracks.specs.Answers.{IsCertificateOrNone};
+ghost use Rattle.papergrid_layout.specs.declared.sizing.Sizing.TheVariants as sizings;
 ghost use Rattle.papergrid_walk.specs.Cells.{problem_of};
 ghost use Rattle.papergrid_config.specs.Grids.{spanned_grid};
 ghost use Rattle.papergrid_walk.specs.Measures.{line_measure};
-ghost use Rattle.papergrid_layout.specs.Answers.{AnswersBothWhere, AreTooLargeBy, UnlessMemory};
-ghost use Rattle.papergrid_layout.specs.Certificates.{IsCertifiedBy, IsChecked};
+ghost use Rattle.papergrid_layout.specs.Answers.{Answers, AnswersBothWhere, AreTooLargeBy, UnlessMemory};
+ghost use Rattle.papergrid_layout.specs.Certificates.{IsCertifiedBy, IsChecked, IsLeastCertified};
 ghost use Rattle.papergrid_text.specs.Records.{TellsRows};
 
 use crate::along::solve_along;
@@ -44,7 +44,7 @@ where
     <<R as Records>::Iter as IntoRecords>::Cell: AsStr + Drop,
     requires { R.is_lawful records }
     ensures { UnlessMemory result (TellsRows R.tells records (λ cells.
-        Answers IsCertificateOrNone
+        Answers sizings.ByShares IsCertificateOrNone
         (problem_of (spanned_grid config.now) (line_measure R.Iter.Cell.text)
         (R.columns records) cells Columns) result)) }
 {
@@ -69,7 +69,7 @@ where
     <<R as Records>::Iter as IntoRecords>::Cell: AsStr + Drop,
     requires { R.is_lawful records }
     ensures { UnlessMemory result (TellsRows R.tells records (λ cells.
-        Answers IsCertificateOrNone
+        Answers sizings.ByShares IsCertificateOrNone
         (problem_of (spanned_grid config.now) (line_measure R.Iter.Cell.text)
         (R.columns records) cells Rows) result)) }
 {
@@ -87,7 +87,7 @@ where
     <<R as Records>::Iter as IntoRecords>::Cell: AsStr + Drop,
     requires { R.is_lawful records }
     ensures { UnlessMemory result (TellsRows R.tells records (λ cells.
-        Answers IsCertificateOrNone
+        Answers sizings.ByShares IsCertificateOrNone
         (problem_of (S.grid settings.now) (line_measure R.Iter.Cell.text)
         (R.columns records) cells direction) result)) }
 {

@@ -5,9 +5,9 @@ ghost use Rattle.std.specs.Prelude.{◌≡◌, []};
 ghost use Rattle.papergrid_values.specs.declared.direction.Direction.TheVariants.{Columns, Rows};
 ghost use Rattle.papergrid_maps.specs.Grids.{compact_grid};
 ghost use Rattle.papergrid_walk.specs.Measures.{std_line_measure};
-ghost use Rattle.papergrid_tracks.specs.Answers.{IsSized};
+ghost use Rattle.papergrid_layout.specs.declared.sizing.Sizing.TheVariants as sizings;
 ghost use Rattle.papergrid_walk.specs.Cells.{problem_of};
-ghost use Rattle.papergrid_layout.specs.Answers.{AreBothSized, UnlessMemory};
+ghost use Rattle.papergrid_layout.specs.Answers.{AreBothSized, IsSized, UnlessMemory};
 ghost use Rattle.papergrid_text.specs.Records.{TellsRows};
 
 use crate::along::sizes_along;
@@ -58,10 +58,11 @@ impl CompactGridDimension {
         <<R as Records>::Iter as IntoRecords>::Cell: AsStr + Drop,
         requires { R.is_lawful records }
         ensures { UnlessMemory result (TellsRows R.tells records (λ cells.
-            IsSized (problem_of (compact_grid config.now) (std_line_measure R.Iter.Cell.text)
+            IsSized sizings.ByShares
+            (problem_of (compact_grid config.now) (std_line_measure R.Iter.Cell.text)
             (R.columns records) cells Columns) result)) }
     {
-        sizes_along::<ByStdLines, _, _>(alloc, records, config, Direction::Columns)
+        sizes_along::<ByShares, ByStdLines, _, _>(alloc, records, config, Direction::Columns)
     }
 
     /// The heights of the rows of the records, in lines.
@@ -82,10 +83,11 @@ impl CompactGridDimension {
         <<R as Records>::Iter as IntoRecords>::Cell: AsStr + Drop,
         requires { R.is_lawful records }
         ensures { UnlessMemory result (TellsRows R.tells records (λ cells.
-            IsSized (problem_of (compact_grid config.now) (std_line_measure R.Iter.Cell.text)
+            IsSized sizings.ByShares
+            (problem_of (compact_grid config.now) (std_line_measure R.Iter.Cell.text)
             (R.columns records) cells Rows) result)) }
     {
-        sizes_along::<ByStdLines, _, _>(alloc, records, config, Direction::Rows)
+        sizes_along::<ByShares, ByStdLines, _, _>(alloc, records, config, Direction::Rows)
     }
 
     /// The widths of the columns of the records, in columns of a terminal, and the heights of their
@@ -108,7 +110,7 @@ impl CompactGridDimension {
         requires { R.is_lawful records }
         ensures { UnlessMemory result (TellsRows R.tells records (λ cells.
             AreBothSized (compact_grid config.now) (std_line_measure R.Iter.Cell.text)
-            (R.columns records) cells result)) }
+            (R.columns records) cells sizings.ByShares result)) }
     {
         let found = solve_both::<ByShares, ByStdLines, _, _>(alloc, records, config, false)?;
         Ok(sizes_of(found))
@@ -146,9 +148,10 @@ where
     ghost use Rattle.papergrid_maps.specs.Grids.{compact_grid};
     ghost use Rattle.papergrid_text.specs.Records.{TellsRows};
     ghost use Rattle.papergrid_walk.specs.Measures.{std_line_measure};
-    ghost use Rattle.papergrid_tracks.specs.Answers.{AreSizes, IsRefused};
+    ghost use Rattle.papergrid_tracks.specs.Answers.{AreSizes};
     ghost use Rattle.papergrid_walk.specs.Cells.{problem_of};
-    ghost use Rattle.papergrid_layout.specs.Answers.{UnlessMemoryError};
+    ghost use Rattle.papergrid_layout.specs.Answers.{IsRefused, UnlessMemoryError};
+    ghost use Rattle.papergrid_layout.specs.declared.sizing.Sizing.TheVariants as sizings;
 
     ghost accepts = { R.is_lawful };
 
@@ -158,7 +161,8 @@ where
 
     ghost is_refused = { λ _ records config error. UnlessMemoryError error
         (TellsRows R.tells records (λ cells.
-        IsRefused (problem_of (compact_grid config) (std_line_measure R.Iter.Cell.text)
+        IsRefused sizings.ByShares (problem_of (compact_grid config)
+        (std_line_measure R.Iter.Cell.text)
         (R.columns records) cells Columns) error)) };
 
     fn estimate(&mut self, records: R, config: &CompactConfig) -> Result<(), LayoutError> {

@@ -4,19 +4,18 @@ ghost use Rattle.std.specs.Prelude.{◌≡◌, []};
 ghost use Rattle.papergrid_values.specs.declared.direction.Direction.TheVariants.{Columns, Rows};
 ghost use Rattle.papergrid_config.specs.Grids.{spanned_grid};
 ghost use Rattle.papergrid_walk.specs.Measures.{line_measure};
-ghost use Rattle.papergrid_tracks.specs.Answers.{Answers, IsSized, IsTotal};
+ghost use Rattle.papergrid_layout.specs.declared.sizing.Sizing.TheVariants as sizings;
 ghost use Rattle.papergrid_walk.specs.Cells.{problem_of};
-ghost use Rattle.papergrid_layout.specs.Answers.{UnlessMemory};
+ghost use Rattle.papergrid_layout.specs.Answers.{Answers, IsSized, IsTotal, UnlessMemory};
 ghost use Rattle.papergrid_text.specs.Records.{TellsRows};
 
-use crate::along::{sizes_along, solve_along};
+use crate::along::{sizes_along, total_along};
 use crate::both::solve_both;
 pub use crate::certificates::{
     check_height_witness, check_width_witness, height_witness, width_witness,
 };
 use crate::dimension::{Dimension, Estimate};
 use papergrid_config::SpannedConfig;
-use papergrid_maps::ConfigView;
 use papergrid_text::{IntoRecords, Records};
 use papergrid_tracks::{ByShares, LayoutError, SizeList, replace_sizes};
 use papergrid_values::Direction;
@@ -65,10 +64,11 @@ impl IterGridDimension {
         <<R as Records>::Iter as IntoRecords>::Cell: AsStr + Drop,
         requires { R.is_lawful records }
         ensures { UnlessMemory result (TellsRows R.tells records (λ cells.
-            IsSized (problem_of (spanned_grid config.now) (line_measure R.Iter.Cell.text)
+            IsSized sizings.ByShares
+            (problem_of (spanned_grid config.now) (line_measure R.Iter.Cell.text)
             (R.columns records) cells Columns) result)) }
     {
-        sizes_along::<ByLines, _, _>(alloc, records, config, Direction::Columns)
+        sizes_along::<ByShares, ByLines, _, _>(alloc, records, config, Direction::Columns)
     }
 
     /// The heights of the rows of the records, in lines.
@@ -88,10 +88,11 @@ impl IterGridDimension {
         <<R as Records>::Iter as IntoRecords>::Cell: AsStr + Drop,
         requires { R.is_lawful records }
         ensures { UnlessMemory result (TellsRows R.tells records (λ cells.
-            IsSized (problem_of (spanned_grid config.now) (line_measure R.Iter.Cell.text)
+            IsSized sizings.ByShares
+            (problem_of (spanned_grid config.now) (line_measure R.Iter.Cell.text)
             (R.columns records) cells Rows) result)) }
     {
-        sizes_along::<ByLines, _, _>(alloc, records, config, Direction::Rows)
+        sizes_along::<ByShares, ByLines, _, _>(alloc, records, config, Direction::Rows)
     }
 
     /// The width of the records' table: the sum of the widths and of the vertical lines.
@@ -111,10 +112,11 @@ impl IterGridDimension {
         <<R as Records>::Iter as IntoRecords>::Cell: AsStr + Drop,
         requires { R.is_lawful records }
         ensures { UnlessMemory result (TellsRows R.tells records (λ cells.
-            Answers IsTotal (problem_of (spanned_grid config.now) (line_measure R.Iter.Cell.text)
+            Answers sizings.ByShares (IsTotal sizings.ByShares)
+            (problem_of (spanned_grid config.now) (line_measure R.Iter.Cell.text)
             (R.columns records) cells Columns) result)) }
     {
-        total_along(alloc, records, config, Direction::Columns)
+        total_along::<ByShares, ByLines, _, _>(alloc, records, config, Direction::Columns)
     }
 
     /// The height of the records' table: the sum of the heights and of the horizontal lines.
@@ -134,10 +136,11 @@ impl IterGridDimension {
         <<R as Records>::Iter as IntoRecords>::Cell: AsStr + Drop,
         requires { R.is_lawful records }
         ensures { UnlessMemory result (TellsRows R.tells records (λ cells.
-            Answers IsTotal (problem_of (spanned_grid config.now) (line_measure R.Iter.Cell.text)
+            Answers sizings.ByShares (IsTotal sizings.ByShares)
+            (problem_of (spanned_grid config.now) (line_measure R.Iter.Cell.text)
             (R.columns records) cells Rows) result)) }
     {
-        total_along(alloc, records, config, Direction::Rows)
+        total_along::<ByShares, ByLines, _, _>(alloc, records, config, Direction::Rows)
     }
 
     /// The widths and the heights.
@@ -152,24 +155,6 @@ impl IterGridDimension {
         } = self;
         (widths.into_vec(), heights.into_vec())
     }
-}
-
-/// The total of the records along a direction: the sum of the sizes and of the lines.
-fn total_along<R: Records + Drop, S: ConfigView>(
-    alloc: Global,
-    records: R,
-    settings: &S,
-    direction: Direction,
-) -> Result<usize, LayoutError>
-where
-    <<R as Records>::Iter as IntoRecords>::Cell: AsStr + Drop,
-    requires { R.is_lawful records }
-    ensures { UnlessMemory result (TellsRows R.tells records (λ cells.
-        Answers IsTotal (problem_of (S.grid settings.now) (line_measure R.Iter.Cell.text)
-        (R.columns records) cells direction) result)) }
-{
-    let found = solve_along::<ByShares, ByLines, _, _>(alloc, records, settings, direction, false)?;
-    Ok(found.total)
 }
 
 impl Dimension for IterGridDimension {
@@ -200,17 +185,18 @@ where
     ghost use Rattle.papergrid_text.specs.Records.{TellsRows};
     ghost use Rattle.papergrid_walk.specs.Measures.{line_measure};
     ghost use Rattle.papergrid_layout.specs.Answers.{AreBothSizes, IsBothRefused, UnlessMemoryError};
+    ghost use Rattle.papergrid_layout.specs.declared.sizing.Sizing.TheVariants as sizings;
 
     ghost accepts = { R.is_lawful };
 
     ghost is_estimate = { λ d records config. TellsRows R.tells records (λ cells.
         AreBothSizes (spanned_grid config) (line_measure R.Iter.Cell.text)
-        (R.columns records) cells d.widths d.heights) };
+        (R.columns records) cells sizings.ByShares d.widths d.heights) };
 
     ghost is_refused = { λ d records config error. UnlessMemoryError error
         (TellsRows R.tells records (λ cells.
         IsBothRefused (spanned_grid config) (line_measure R.Iter.Cell.text)
-        (R.columns records) cells error)) };
+        (R.columns records) cells sizings.ByShares error)) };
 
     fn estimate(&mut self, records: R, config: &SpannedConfig) -> Result<(), LayoutError> {
         let found = solve_both::<ByShares, ByLines, _, _>(self.alloc, records, config, false);

@@ -7,11 +7,11 @@ ghost use Rattle.papergrid_values.specs.Positions.{IsBefore};
 ghost use Rattle.papergrid_text.specs.Measured.{Measured};
 ghost use Rattle.papergrid_values.specs.declared.direction.Direction.{Direction};
 ghost use Rattle.papergrid_values.specs.declared.direction.Direction.TheVariants.{Columns, Rows};
-ghost use Rattle.papergrid_tracks.specs.Answers.{AreSizes, IsAccepted, IsTotal};
+ghost use Rattle.papergrid_tracks.specs.Answers.{AreSizes, IsAccepted};
 ghost use Rattle.papergrid_tracks.specs.Fits.{Fits, IsLeast};
 ghost use Rattle.papergrid_tracks.specs.Problem.{Problem, total_of};
 ghost use Rattle.papergrid_tracks.specs.Ranges.{IsLaminar, first_out};
-ghost use Rattle.papergrid_tracks.specs.LeastAnswers.{AreLeastSizes, AreCriticalPath, IsLeastTotal};
+ghost use Rattle.papergrid_tracks.specs.LeastAnswers.{AreLeastSizes, AreCriticalPath};
 ghost use Rattle.papergrid_config.specs.History.{HasSettingHistory};
 ghost use Rattle.papergrid_config.specs.declared.setting.Setting.{Setting};
 ghost use Rattle.papergrid_config.specs.declared.spanned.SpannedConfig.{SpannedConfig};
@@ -19,7 +19,8 @@ ghost use Rattle.papergrid_walk.specs.Cells.{demand_by, demands_of, positioned_c
 ghost use Rattle.papergrid_maps.specs.Grids.{Grid};
 ghost use Rattle.papergrid_config.specs.Grids.{spanned_grid};
 ghost use Rattle.papergrid_walk.specs.Measures.{cell_measure, line_measure};
-ghost use Rattle.papergrid_layout.specs.Answers.{AreBothLeast, AreBothSizes, HoldAlong, first_out_of_table};
+ghost use Rattle.papergrid_layout.specs.Answers.{AreBothSizes, HoldAlong, IsTotal, first_out_of_table};
+ghost use Rattle.papergrid_layout.specs.declared.sizing.Sizing.{Sizing};
 ghost use Rattle.papergrid_layout.specs.Laws.{AreReordered, AreSwapped, HaveRoom, IsCellAt, IsNewText, TellTheSame, sizes_told};
 ghost use Rattle.papergrid_layout.specs.Places.{DoNotMeet, HasRoomAtPlace, HaveNoneInCommon, IsInsideTable, IsPlaced, StandsOver, TableView, place_at, sized_table, total_along};
 ghost use Rattle.papergrid_tracks.specs.declared.error.LayoutError.{LayoutError};
@@ -108,14 +109,9 @@ pub fn total_covers_cells<C>()
         first_out problem.count problem.demands ≡ None → Fits problem sizes →
         All (λ cell. (demand_by direction grid measure cell).minimum
         ≤ total_of problem sizes) (visible_cells grid rows) }
-    ensures shares { (grid : Grid) (measure : C → ℕ × ℕ)
+    ensures sizes { (sizing : Sizing) (grid : Grid) (measure : C → ℕ × ℕ)
         (columns : ℕ) (rows : List (List C)) (direction : Direction) (total : ℕ) →
-        IsTotal (problem_of grid measure columns rows direction) total →
-        All (λ cell. (demand_by direction grid measure cell).minimum
-        ≤ total) (visible_cells grid rows) }
-    ensures least { (grid : Grid) (measure : C → ℕ × ℕ)
-        (columns : ℕ) (rows : List (List C)) (direction : Direction) (total : ℕ) →
-        IsLeastTotal (problem_of grid measure columns rows direction) total →
+        IsTotal sizing (problem_of grid measure columns rows direction) total →
         All (λ cell. (demand_by direction grid measure cell).minimum
         ≤ total) (visible_cells grid rows) }
 {}
@@ -208,24 +204,14 @@ pub fn places_have_room<C>()
         (columns : ℕ) (rows : List (List C)) (widths heights : List ℕ) →
         HoldAlong grid measure columns rows HaveRoom widths heights → (direction : Direction) →
         total_along (sized_table grid widths heights (length rows, columns)) direction < 2 ^ 64 }
-    ensures shares { (grid : Grid) (measure : C → ℕ × ℕ)
+    ensures sizes { (sizing : Sizing) (grid : Grid) (measure : C → ℕ × ℕ)
         (columns : ℕ) (rows : List (List C)) (widths heights : List ℕ) →
-        AreBothSizes grid measure columns rows widths heights →
+        AreBothSizes grid measure columns rows sizing widths heights →
         HoldAlong grid measure columns rows HaveRoom widths heights }
-    ensures least { (grid : Grid) (measure : C → ℕ × ℕ)
+    ensures totals { (sizing : Sizing) (grid : Grid) (measure : C → ℕ × ℕ)
         (columns : ℕ) (rows : List (List C)) (widths heights : List ℕ) →
-        AreBothLeast grid measure columns rows widths heights →
-        HoldAlong grid measure columns rows HaveRoom widths heights }
-    ensures totals { (grid : Grid) (measure : C → ℕ × ℕ)
-        (columns : ℕ) (rows : List (List C)) (widths heights : List ℕ) →
-        AreBothSizes grid measure columns rows widths heights →
+        AreBothSizes grid measure columns rows sizing widths heights →
         (direction : Direction) (total : ℕ) →
-        IsTotal (problem_of grid measure columns rows direction) total
-        ↔ (total ≡ total_along (sized_table grid widths heights (length rows, columns)) direction) }
-    ensures least_totals { (grid : Grid) (measure : C → ℕ × ℕ)
-        (columns : ℕ) (rows : List (List C)) (widths heights : List ℕ) →
-        AreBothLeast grid measure columns rows widths heights →
-        (direction : Direction) (total : ℕ) →
-        IsLeastTotal (problem_of grid measure columns rows direction) total
+        IsTotal sizing (problem_of grid measure columns rows direction) total
         ↔ (total ≡ total_along (sized_table grid widths heights (length rows, columns)) direction) }
 {}

@@ -4,17 +4,16 @@ ghost use Rattle.std.specs.Prelude.{◌≡◌, []};
 ghost use Rattle.papergrid_values.specs.declared.direction.Direction.TheVariants.{Columns, Rows};
 ghost use Rattle.papergrid_config.specs.Grids.{spanned_grid};
 ghost use Rattle.papergrid_walk.specs.Measures.{line_measure};
-ghost use Rattle.papergrid_tracks.specs.LeastAnswers.{IsLeastSized, IsLeastTotal, LeastAnswers};
+ghost use Rattle.papergrid_layout.specs.declared.sizing.Sizing.TheVariants as sizings;
 ghost use Rattle.papergrid_walk.specs.Cells.{problem_of};
-ghost use Rattle.papergrid_layout.specs.Answers.{UnlessMemory};
+ghost use Rattle.papergrid_layout.specs.Answers.{Answers, IsSized, IsTotal, UnlessMemory};
 ghost use Rattle.papergrid_text.specs.Records.{TellsRows};
 
-use crate::along::solve_along;
+use crate::along::{sizes_along, total_along};
 use crate::both::solve_both;
 pub use crate::certificates::{height_certificate, width_certificate};
 use crate::dimension::{Dimension, Estimate};
 use papergrid_config::SpannedConfig;
-use papergrid_maps::ConfigView;
 use papergrid_text::{IntoRecords, Records};
 use papergrid_tracks::{ByLeastTotal, LayoutError, SizeList, replace_sizes};
 use papergrid_values::Direction;
@@ -65,10 +64,11 @@ impl LeastGridDimension {
         <<R as Records>::Iter as IntoRecords>::Cell: AsStr + Drop,
         requires { R.is_lawful records }
         ensures { UnlessMemory result (TellsRows R.tells records (λ cells.
-            IsLeastSized (problem_of (spanned_grid config.now) (line_measure R.Iter.Cell.text)
+            IsSized sizings.Least
+            (problem_of (spanned_grid config.now) (line_measure R.Iter.Cell.text)
             (R.columns records) cells Columns) result)) }
     {
-        sizes_along(alloc, records, config, Direction::Columns)
+        sizes_along::<ByLeastTotal, ByLines, _, _>(alloc, records, config, Direction::Columns)
     }
 
     /// The heights of the rows of the records, in lines: no heights with room for each visible cell have
@@ -89,10 +89,11 @@ impl LeastGridDimension {
         <<R as Records>::Iter as IntoRecords>::Cell: AsStr + Drop,
         requires { R.is_lawful records }
         ensures { UnlessMemory result (TellsRows R.tells records (λ cells.
-            IsLeastSized (problem_of (spanned_grid config.now) (line_measure R.Iter.Cell.text)
+            IsSized sizings.Least
+            (problem_of (spanned_grid config.now) (line_measure R.Iter.Cell.text)
             (R.columns records) cells Rows) result)) }
     {
-        sizes_along(alloc, records, config, Direction::Rows)
+        sizes_along::<ByLeastTotal, ByLines, _, _>(alloc, records, config, Direction::Rows)
     }
 
     /// The width of the records' table: the sum of the widths and of the vertical lines.
@@ -112,11 +113,11 @@ impl LeastGridDimension {
         <<R as Records>::Iter as IntoRecords>::Cell: AsStr + Drop,
         requires { R.is_lawful records }
         ensures { UnlessMemory result (TellsRows R.tells records (λ cells.
-            LeastAnswers IsLeastTotal (problem_of (spanned_grid config.now)
-            (line_measure R.Iter.Cell.text)
+            Answers sizings.Least (IsTotal sizings.Least)
+            (problem_of (spanned_grid config.now) (line_measure R.Iter.Cell.text)
             (R.columns records) cells Columns) result)) }
     {
-        total_along(alloc, records, config, Direction::Columns)
+        total_along::<ByLeastTotal, ByLines, _, _>(alloc, records, config, Direction::Columns)
     }
 
     /// The height of the records' table: the sum of the heights and of the horizontal lines.
@@ -136,11 +137,11 @@ impl LeastGridDimension {
         <<R as Records>::Iter as IntoRecords>::Cell: AsStr + Drop,
         requires { R.is_lawful records }
         ensures { UnlessMemory result (TellsRows R.tells records (λ cells.
-            LeastAnswers IsLeastTotal (problem_of (spanned_grid config.now)
-            (line_measure R.Iter.Cell.text)
+            Answers sizings.Least (IsTotal sizings.Least)
+            (problem_of (spanned_grid config.now) (line_measure R.Iter.Cell.text)
             (R.columns records) cells Rows) result)) }
     {
-        total_along(alloc, records, config, Direction::Rows)
+        total_along::<ByLeastTotal, ByLines, _, _>(alloc, records, config, Direction::Rows)
     }
 
     /// The widths and the heights.
@@ -155,47 +156,6 @@ impl LeastGridDimension {
         } = self;
         (widths.into_vec(), heights.into_vec())
     }
-}
-
-/// The least sizes of the records along a direction.
-fn sizes_along<R: Records + Drop, S: ConfigView>(
-    alloc: Global,
-    records: R,
-    settings: &S,
-    direction: Direction,
-) -> Result<Vec<usize>, LayoutError>
-where
-    <<R as Records>::Iter as IntoRecords>::Cell: AsStr + Drop,
-    requires { R.is_lawful records }
-    ensures { UnlessMemory result (TellsRows R.tells records (λ cells.
-        IsLeastSized (problem_of (S.grid settings.now) (line_measure R.Iter.Cell.text)
-        (R.columns records) cells direction) result)) }
-{
-    let found = solve_along::<ByLeastTotal, ByLines, _, _>(
-        alloc, records, settings, direction, false,
-    )?;
-    Ok(found.sizes)
-}
-
-/// The total of the records along a direction: the sum of the sizes and of the lines.
-fn total_along<R: Records + Drop, S: ConfigView>(
-    alloc: Global,
-    records: R,
-    settings: &S,
-    direction: Direction,
-) -> Result<usize, LayoutError>
-where
-    <<R as Records>::Iter as IntoRecords>::Cell: AsStr + Drop,
-    requires { R.is_lawful records }
-    ensures { UnlessMemory result (TellsRows R.tells records (λ cells.
-        LeastAnswers IsLeastTotal (problem_of (S.grid settings.now)
-        (line_measure R.Iter.Cell.text)
-        (R.columns records) cells direction) result)) }
-{
-    let found = solve_along::<ByLeastTotal, ByLines, _, _>(
-        alloc, records, settings, direction, false,
-    )?;
-    Ok(found.total)
 }
 
 impl Dimension for LeastGridDimension {
@@ -225,18 +185,19 @@ where
     ghost use Rattle.papergrid_config.specs.Grids.{spanned_grid};
     ghost use Rattle.papergrid_text.specs.Records.{TellsRows};
     ghost use Rattle.papergrid_walk.specs.Measures.{line_measure};
-    ghost use Rattle.papergrid_layout.specs.Answers.{AreBothLeast, HaveNoLeast, UnlessMemoryError};
+    ghost use Rattle.papergrid_layout.specs.Answers.{AreBothSizes, IsBothRefused, UnlessMemoryError};
+    ghost use Rattle.papergrid_layout.specs.declared.sizing.Sizing.TheVariants as sizings;
 
     ghost accepts = { R.is_lawful };
 
     ghost is_estimate = { λ d records config. TellsRows R.tells records (λ cells.
-        AreBothLeast (spanned_grid config) (line_measure R.Iter.Cell.text)
-        (R.columns records) cells d.widths d.heights) };
+        AreBothSizes (spanned_grid config) (line_measure R.Iter.Cell.text)
+        (R.columns records) cells sizings.Least d.widths d.heights) };
 
     ghost is_refused = { λ d records config error. UnlessMemoryError error
         (TellsRows R.tells records (λ cells.
-        HaveNoLeast (spanned_grid config) (line_measure R.Iter.Cell.text)
-        (R.columns records) cells error)) };
+        IsBothRefused (spanned_grid config) (line_measure R.Iter.Cell.text)
+        (R.columns records) cells sizings.Least error)) };
 
     fn estimate(&mut self, records: R, config: &SpannedConfig) -> Result<(), LayoutError> {
         let found = solve_both::<ByLeastTotal, ByLines, _, _>(self.alloc, records, config, false);

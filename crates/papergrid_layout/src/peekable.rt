@@ -4,9 +4,9 @@ ghost use Rattle.std.specs.Prelude.{◌≡◌, [], length};
 ghost use Rattle.papergrid_values.specs.declared.direction.Direction.TheVariants.{Columns, Rows};
 ghost use Rattle.papergrid_config.specs.Grids.{spanned_grid};
 ghost use Rattle.papergrid_walk.specs.Measures.{cell_measure};
-ghost use Rattle.papergrid_tracks.specs.Answers.{IsSized};
+ghost use Rattle.papergrid_layout.specs.declared.sizing.Sizing.TheVariants as sizings;
 ghost use Rattle.papergrid_walk.specs.Cells.{problem_of};
-ghost use Rattle.papergrid_layout.specs.Answers.{AreBothSized, UnlessMemory};
+ghost use Rattle.papergrid_layout.specs.Answers.{AreBothSized, IsSized, UnlessMemory};
 ghost use Rattle.papergrid_text.specs.Records.{TellsRows};
 
 use crate::along::sizes_along;
@@ -59,11 +59,11 @@ impl PeekableGridDimension {
         <<R as Records>::Iter as IntoRecords>::Cell: Cell + Drop,
         requires { R.is_lawful records }
         ensures { UnlessMemory result (TellsRows R.tells records (λ cells.
-            IsSized (problem_of (spanned_grid config.now)
+            IsSized sizings.ByShares (problem_of (spanned_grid config.now)
             (cell_measure R.Iter.Cell.width R.Iter.Cell.lines)
             (R.columns records) cells Columns) result)) }
     {
-        sizes_along::<ByCell, _, _>(alloc, records, config, Direction::Columns)
+        sizes_along::<ByShares, ByCell, _, _>(alloc, records, config, Direction::Columns)
     }
 
     /// The heights of the rows of the records, in lines.
@@ -83,11 +83,11 @@ impl PeekableGridDimension {
         <<R as Records>::Iter as IntoRecords>::Cell: Cell + Drop,
         requires { R.is_lawful records }
         ensures { UnlessMemory result (TellsRows R.tells records (λ cells.
-            IsSized (problem_of (spanned_grid config.now)
+            IsSized sizings.ByShares (problem_of (spanned_grid config.now)
             (cell_measure R.Iter.Cell.width R.Iter.Cell.lines)
             (R.columns records) cells Rows) result)) }
     {
-        sizes_along::<ByCell, _, _>(alloc, records, config, Direction::Rows)
+        sizes_along::<ByShares, ByCell, _, _>(alloc, records, config, Direction::Rows)
     }
 
     /// The widths of the columns of the records, in columns of a terminal, and the heights of their
@@ -111,7 +111,8 @@ impl PeekableGridDimension {
         requires { R.is_lawful records }
         ensures { UnlessMemory result (TellsRows R.tells records (λ cells.
             AreBothSized (spanned_grid config.now)
-            (cell_measure R.Iter.Cell.width R.Iter.Cell.lines) (R.columns records) cells result)) }
+            (cell_measure R.Iter.Cell.width R.Iter.Cell.lines) (R.columns records) cells
+            sizings.ByShares result)) }
     {
         let found = solve_both::<ByShares, ByCell, _, _>(alloc, records, config, false)?;
         Ok(sizes_of(found))
@@ -159,17 +160,18 @@ where
     ghost use Rattle.papergrid_text.specs.Records.{TellsRows};
     ghost use Rattle.papergrid_walk.specs.Measures.{cell_measure};
     ghost use Rattle.papergrid_layout.specs.Answers.{AreBothSizes, IsBothRefused, UnlessMemoryError};
+    ghost use Rattle.papergrid_layout.specs.declared.sizing.Sizing.TheVariants as sizings;
 
     ghost accepts = { R.is_lawful };
 
     ghost is_estimate = { λ d records config. TellsRows R.tells records (λ cells.
         AreBothSizes (spanned_grid config) (cell_measure R.Iter.Cell.width R.Iter.Cell.lines)
-        (R.columns records) cells d.widths d.heights) };
+        (R.columns records) cells sizings.ByShares d.widths d.heights) };
 
     ghost is_refused = { λ d records config error. UnlessMemoryError error
         (TellsRows R.tells records (λ cells.
         IsBothRefused (spanned_grid config) (cell_measure R.Iter.Cell.width R.Iter.Cell.lines)
-        (R.columns records) cells error)) };
+        (R.columns records) cells sizings.ByShares error)) };
 
     fn estimate(&mut self, records: R, config: &SpannedConfig) -> Result<(), LayoutError> {
         let found = solve_both::<ByShares, ByCell, _, _>(self.alloc, records, config, false);

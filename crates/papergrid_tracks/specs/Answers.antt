@@ -35,10 +35,6 @@ module _ (problem : Problem) where
   IsRefusedWhere too_large TooLarge = too_large
   IsRefusedWhere too_large (Memory e) = ⊤
 
-  -- the same, where the sizes are too large
-  abbrev pub IsRefused : LayoutError → Type 0
-  IsRefused e = IsRefusedWhere AreSizesTooLarge e
-
   -- the positions of the cells of the certificate
   pub record AreCertifying (places : List Position) : Type 0 where
     pub none_out : first_out problem.count problem.demands ≡ None
@@ -59,10 +55,6 @@ module _ (problem : Problem) where
     pub are_sizes : holds sizes
     pub adds_up : total ≡ total_of problem sizes
 
-  -- the sum of the sizes and of all lines
-  abbrev pub IsTotal : ℕ → Type 0
-  IsTotal total = IsTotalBy AreSizes total
-
 -- the positions of the cells of the certificate, none where two ranges are neither nested nor disjoint
 abbrev pub IsCertificateOrNone : {Z : Type 0} → Problem → Option (Vec Position Z) → Type 0
 IsCertificateOrNone problem None = NoneCertify problem
@@ -82,14 +74,6 @@ pub record IsSolvedBy (are_sizes : Problem → List ℕ → Type 0)
 abbrev pub AnswersWhere : {A : Type 0} → (Problem → Type 0) → (Problem → A → Type 0) → Problem → Result A LayoutError → Type 0
 AnswersWhere too_large holds problem (Ok answer) = holds problem answer
 AnswersWhere too_large holds problem (Err e) = IsRefusedWhere problem (too_large problem) e
-
--- the same, where the sizes are too large
-abbrev pub Answers : {A : Type 0} → (Problem → A → Type 0) → Problem → Result A LayoutError → Type 0
-Answers holds problem result = AnswersWhere AreSizesTooLarge holds problem result
-
--- the sizes, or why there are none
-abbrev pub IsSized : {Z : Type 0} → Problem → Result (Vec ℕ Z) LayoutError → Type 0
-IsSized {Z} problem result = Answers (λ p (sizes : Vec ℕ Z). AreSizes p sizes.items) problem result
 
 -- what a checker accepts: no cell overflows the table, the sizes fit, and the positions are those of cells that certify them
 pub record IsAccepted (problem : Problem) (sizes : List ℕ) (places : List Position) : Type 0 where

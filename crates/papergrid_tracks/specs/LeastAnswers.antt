@@ -1,9 +1,7 @@
 -- What an answer of least sizes says of the cells' demands.
-use Rattle.std.specs.Prelude.{◌≡◌, ℕ, ◌^◌, ◌<◌, ◌≤◌, List, All, EachIndex, slice_index, map, reverse, Option, None, Some, Result, Vec}
+use Rattle.std.specs.Prelude.{◌≡◌, ℕ, ◌^◌, ◌<◌, ◌≤◌, List, All, EachIndex, slice_index, map, reverse, Option, None, Some, Vec}
 use Rattle.papergrid_values.specs.declared.position.Position.{Position}
 use Rattle.papergrid_tracks.specs.declared.demand.Demand.{Demand}
-use Rattle.papergrid_tracks.specs.declared.error.LayoutError.{LayoutError}
-use Rattle.papergrid_tracks.specs.Answers.{AnswersWhere, IsTotalBy}
 use Rattle.papergrid_tracks.specs.Problem.{Problem, total_of}
 use Rattle.papergrid_tracks.specs.Ranges.{IsInTable, first_out, place_of}
 use Rattle.papergrid_tracks.specs.Fits.{Fits, IsCertificate, IsLeast, IsTooLarge, top_minimum}
@@ -36,23 +34,7 @@ module _ (problem : Problem) where
     pub too_large : IsTooLarge problem (least_of problem)
     pub others_too_large : (other : List ℕ) → Fits problem other → IsTooLarge problem other
 
-  -- the sum of the least sizes and of all lines
-  abbrev pub IsLeastTotal : ℕ → Type 0
-  IsLeastTotal total = IsTotalBy problem AreLeastSizes total
-
 -- the positions of these cells; there always are some
 abbrev pub IsCriticalPath : {Z : Type 0} → Problem → Option (Vec Position Z) → Type 0
 IsCriticalPath problem None = ⊥
 IsCriticalPath problem (Some places) = AreCriticalPath problem places.items
-
--- what is asked for of a problem, or why there is none. Where it is refused as too large, every list that fits is
-abbrev pub LeastAnswers : {A : Type 0} → (Problem → A → Type 0) → Problem → Result A LayoutError → Type 0
-LeastAnswers holds problem result = AnswersWhere AreLeastTooLarge holds problem result
-
--- the least sizes, or why there are none
-abbrev pub IsLeastSized : {Z : Type 0} → Problem → Result (Vec ℕ Z) LayoutError → Type 0
-IsLeastSized {Z} problem result = LeastAnswers (λ p (sizes : Vec ℕ Z). AreLeastSizes p sizes.items) problem result
-
--- the positions of the cells that certify them, or why there are no least sizes
-abbrev pub IsLeastCertified : {Z : Type 0} → Problem → Result (Vec Position Z) LayoutError → Type 0
-IsLeastCertified {Z} problem result = LeastAnswers (λ p (places : Vec Position Z). AreCriticalPath p places.items) problem result

@@ -69,12 +69,12 @@ fn certificate_of(
 pub struct ByLeastTotal {}
 
 impl Solver for ByLeastTotal {
-    ghost use Rattle.papergrid_tracks.specs.Answers.{IsSolvedBy};
     ghost use Rattle.papergrid_tracks.specs.LeastAnswers.{AreLeastSizes, AreLeastTooLarge};
 
+    ghost are_sizes = { AreLeastSizes };
+
     // What certifies them is told where the demands stand by row and then by column.
-    ghost solves = { λ certify problem solved.
-        IsSolvedBy AreLeastSizes IsCriticalPathInOrder certify problem solved };
+    ghost certifies = { λ problem certificate. IsCriticalPathInOrder problem certificate };
 
     ghost too_large = { AreLeastTooLarge };
 

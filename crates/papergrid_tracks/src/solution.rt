@@ -1,10 +1,11 @@
 //! The answer for a direction of a configuration, once all cells are kept.
 
-ghost use Rattle.std.specs.Prelude.{Bool, List};
-ghost use Rattle.papergrid_tracks.specs.Answers.{AnswersWhere};
+ghost use Rattle.std.specs.Prelude.{List, Option, Vec, ℕ};
+ghost use Rattle.std.specs.declared.alloc.Global.{Global};
+ghost use Rattle.papergrid_values.specs.declared.position.Position.{Position};
+ghost use Rattle.papergrid_tracks.specs.Answers.{AnswersWhere, IsSolvedBy};
 ghost use Rattle.papergrid_tracks.specs.Problem.{Problem, problem_of_demands};
 ghost use Rattle.papergrid_tracks.specs.declared.demand.Demand.{Demand};
-ghost use Rattle.papergrid_tracks.specs.declared.solution.Solved.{Solved};
 ghost use Rattle.papergrid_tracks.specs.ForProofs.Demands.{AreGathered};
 
 use crate::axis::Axis;
@@ -28,8 +29,11 @@ pub struct Solved {
 
 /// A way to find sizes.
 pub trait Solver {
-    // What holds of what is found, by whether the certificate is asked for, and of what problem.
-    ghost solves: { Bool → Problem → Solved → Type 0 };
+    // What holds of the sizes that it finds of a problem.
+    ghost are_sizes: { Problem → List ℕ → Type 0 };
+
+    // What holds of the certificate.
+    ghost certifies: { Problem → Option (Vec Position Global) → Type 0 };
 
     // What holds of a problem for which it is refused as too large.
     ghost too_large: { Problem → Type 0 };
@@ -50,7 +54,7 @@ pub trait Solver {
         requires { (demands : List Demand) × AreGathered count kept.now demands }
         ensures { (demands : List Demand) → AreGathered count kept.now demands →
             let problem = problem_of_demands (A.line axis.now) count demands in
-            AnswersWhere too_large (solves certify) problem result };
+            AnswersWhere too_large (IsSolvedBy are_sizes certifies certify) problem result };
 }
 
 /// By shares: the deficit of a cell of a longer range is distributed evenly over it. There is
@@ -58,9 +62,11 @@ pub trait Solver {
 pub struct ByShares {}
 
 impl Solver for ByShares {
-    ghost use Rattle.papergrid_tracks.specs.Answers.{AreSizes, IsSolvedBy, IsCertificateOrNone, AreSizesTooLarge};
+    ghost use Rattle.papergrid_tracks.specs.Answers.{AreSizes, IsCertificateOrNone, AreSizesTooLarge};
 
-    ghost solves = { λ certify problem solved. IsSolvedBy AreSizes IsCertificateOrNone certify problem solved };
+    ghost are_sizes = { AreSizes };
+
+    ghost certifies = { λ problem certificate. IsCertificateOrNone problem certificate };
 
     ghost too_large = { AreSizesTooLarge };
 

@@ -1,7 +1,6 @@
 -- What is known of the cells that stand over a point.
 use Rattle.std.specs.Prelude.{ℕ}
 use Rattle.papergrid_values.specs.declared.position.Position.{Position}
-use Rattle.papergrid_values.specs.declared.direction.Direction.TheVariants.{Columns, Rows}
 use Rattle.papergrid_maps.specs.Spans.{IsInRectangle}
 use Rattle.papergrid_layout.specs.Places.{StandsOver, TableView}
 

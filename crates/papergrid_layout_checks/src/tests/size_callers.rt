@@ -1,7 +1,9 @@
 //! Callers that know their rows: the contracts suffice for an exact answer.
 
 ghost use Rattle.std.specs.Prelude.{IfOk};
-ghost use Rattle.papergrid_tracks.specs.Answers.{AreSizes, IsTotal};
+ghost use Rattle.papergrid_tracks.specs.Answers.{AreSizes};
+ghost use Rattle.papergrid_layout.specs.Answers.{IsTotal};
+ghost use Rattle.papergrid_layout.specs.declared.sizing.Sizing.TheVariants as sizings;
 ghost use Rattle.papergrid_layout_checks.specs.Strings.{columns_problem};
 
 use papergrid_config::SpannedConfig;
@@ -36,7 +38,7 @@ pub fn width_by_estimate(
     records: VecRecords<String>,
     config: &SpannedConfig,
 ) -> Result<usize, LayoutError>
-    ensures { IfOk result (λ width. IsTotal (columns_problem config.now records) width) }
+    ensures { IfOk result (λ width. IsTotal sizings.ByShares (columns_problem config.now records) width) }
 {
     let columns = records.count_columns();
     let mut dimension = IterGridDimension::new(alloc);

@@ -1,5 +1,5 @@
 use Rattle.std.specs.Prelude.{Err, Ok}
-use Rattle.papergrid_tracks.specs.Answers.{Answers, IsTotal}
+use Rattle.papergrid_layout.specs.declared.sizing.Sizing.TheVariants.{ByShares}
 use Rattle.papergrid_values.specs.declared.direction.Direction.TheVariants.{Columns}
 use Rattle.papergrid_walk.specs.Cells.{problem_of}
 use Rattle.papergrid_config.specs.Grids.{spanned_grid}
@@ -20,5 +20,5 @@ returns-clause-covers g c =
     let measure = line_measure g.R.Iter.Cell.AsStr.text in
     let columns = g.R.Records.columns c.args.records in
     said_of_cells (g.R.Records.tells c.args.records) _ _
-    (λ cells result. answer_covers (problem_of grid measure columns cells Columns) _ (λ total is. c.total_covers_cells.ensures.shares grid measure columns cells Columns total is) result)
+    (λ cells result. answer_covers (problem_of grid measure columns cells Columns) _ (λ total is. c.total_covers_cells.ensures.sizes ByShares grid measure columns cells Columns total is) result)
     _ c.width_total.ensures

@@ -1,6 +1,6 @@
 use Rattle.std.proofs.Common.{◌∙◌, subst, sym}
 use Rattle.std.proofs.lemmas.Result.{err_from_is_err_and}
-use Rattle.papergrid_tracks.specs.Answers.{IsRefusedWhere}
+use Rattle.papergrid_tracks.specs.Answers.{IsRefusedWhere, IsSolvedBy}
 use Rattle.papergrid_values.specs.declared.direction.Direction.TheVariants.{Columns, Rows}
 use Rattle.papergrid_walk.specs.Cells.{demands_of, problem_with}
 use Rattle.papergrid_layout.proofs.AnswerLemmas.{refused_along}
@@ -37,5 +37,5 @@ returns g c = λ cells many kept.
     let high = c.in_ok-heights.ensures (demands_of Rows grid measured cells) (seen_high grid measured c.args.columns cells c.args.both.now kept c.args.rows many) in
     record {
       widths = c.in_ok-widths.ensures (demands_of Columns grid measured cells) kept.wide;
-      heights = subst (λ n. g.T.Solver.solves c.args.certify (problem_with grid measured Rows n cells) c.in_ok-heights.heights) many high;
+      heights = subst (λ n. IsSolvedBy g.T.Solver.are_sizes g.T.Solver.certifies c.args.certify (problem_with grid measured Rows n cells) c.in_ok-heights.heights) many high;
     }

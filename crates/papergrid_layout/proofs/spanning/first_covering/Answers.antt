@@ -1,4 +1,4 @@
-use Rattle.std.proofs.Common.{rules, of_calls, ◌≡◌, ℕ, ◌+◌, ◌<◌, ◌≤◌, ◌∙◌, arith, get_or, inl, inr, length, subst, ap, sym, leb}
+use Rattle.std.proofs.Common.{rules, of_calls, ◌≡◌, ℕ, ◌+◌, ◌<◌, ◌∙◌, arith, get_or, inl, inr, subst, ap, sym, leb}
 use Rattle.std.proofs.lemmas.Bool.{cases_lt, false≢true, leb-true}
 use Rattle.std.proofs.lemmas.List.Sorted.{IsPartitionPoint-from_clause, IsPartitionedBy-leb}
 use Rattle.std.proofs.lemmas.List.{get_or_default}

@@ -1,4 +1,4 @@
-use Rattle.std.proofs.Common.{◌≡◌, ◌∙◌, arith, refl}
+use Rattle.std.proofs.Common.{◌∙◌, arith, refl}
 use Rattle.std.proofs.lemmas.List.{get_or_read}
 use Rattle.papergrid_layout.proofs.MarkLemmas.{none-in-first, track-tested}
 use Rattle.papergrid_layout.proofs.marks.Marks.track_at.Goals as goal

@@ -2,7 +2,8 @@ use Rattle.std.proofs.Common.{◌≡◌, ◌<◌, ℕ, arith, length, subst}
 use Rattle.std.specs.Prelude.{Err, IfOk, Ok, Result, slice_index, string_bytes}
 use Rattle.papergrid_values.specs.declared.direction.Direction.TheVariants.{Columns}
 use Rattle.papergrid_text.specs.HeldRows.{column_count}
-use Rattle.papergrid_tracks.specs.Answers.{IsTotal}
+use Rattle.papergrid_layout.specs.Answers.{IsTotal}
+use Rattle.papergrid_layout.specs.declared.sizing.Sizing.TheVariants.{ByShares}
 use Rattle.papergrid_tracks.specs.declared.error.LayoutError.{LayoutError}
 use Rattle.papergrid_walk.specs.Cells.{problem_of}
 use Rattle.papergrid_config.specs.Grids.{spanned_grid}
@@ -30,5 +31,5 @@ returns-in-Ok c =
     let widths = c.estimate.new.self.widths in
     let summed = subst (λ (k : ℕ). IsTotalOf (total (slice_index widths) (grid.draws Columns k) k) c.total_width.result) c.count_columns-columns.ensures c.total_width.ensures in
     answered c.total_width.result (total (slice_index widths) (grid.draws Columns columns) columns) _
-    (λ n e. subst (λ cells. IsTotal (problem_of grid (line_measure string_bytes) columns cells Columns) n) told.1
-    ((totals grid (line_measure string_bytes) columns told.0 widths c.estimate.new.self.heights told.2 Columns n).1 e)) summed
+    (λ n e. subst (λ cells. IsTotal ByShares (problem_of grid (line_measure string_bytes) columns cells Columns) n) told.1
+    ((totals ByShares grid (line_measure string_bytes) columns told.0 widths c.estimate.new.self.heights told.2 Columns n).1 e)) summed

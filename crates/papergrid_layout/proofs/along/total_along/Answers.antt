@@ -1,4 +1,4 @@
-use Rattle.papergrid_layout.proofs.least.total_along.Goals as goal
+use Rattle.papergrid_layout.proofs.along.total_along.Goals as goal
 
 pub returns : goal.returns
 returns g c =
