@@ -57,7 +57,8 @@ pub fn widths(
     columns: usize,
     config: &SpannedConfig,
 ) -> Result<Vec<usize>, LayoutError>
-    ensures exact { IsSized sizings.ByShares (texts_problem config.now columns rows.now Columns) result }
+    ensures exact { IsSized sizings.ByShares
+        (texts_problem config.now columns rows.now Columns) result }
     ensures one_each { IfOk result (λ widths. length widths.items ≡ columns) }
 {
     IterGridDimension::width(alloc, IterRecords::new(rows, columns, None), config)

@@ -213,5 +213,6 @@ pub fn places_have_room<C>()
         AreBothSizes grid measure columns rows sizing widths heights →
         (direction : Direction) (total : ℕ) →
         IsTotal sizing (problem_of grid measure columns rows direction) total
-        ↔ (total ≡ total_along (sized_table grid widths heights (length rows, columns)) direction) }
+        ↔ (total
+        ≡ total_along (sized_table grid widths heights (length rows, columns)) direction) }
 {}

@@ -38,7 +38,8 @@ pub fn width_by_estimate(
     records: VecRecords<String>,
     config: &SpannedConfig,
 ) -> Result<usize, LayoutError>
-    ensures { IfOk result (λ width. IsTotal sizings.ByShares (columns_problem config.now records) width) }
+    ensures { IfOk result
+        (IsTotal sizings.ByShares (columns_problem config.now records)) }
 {
     let columns = records.count_columns();
     let mut dimension = IterGridDimension::new(alloc);
