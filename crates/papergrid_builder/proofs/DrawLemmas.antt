@@ -7,9 +7,9 @@ use Rattle.papergrid_config.specs.Grids.{spanned_grid}
 use Rattle.papergrid_config.specs.declared.setting.Setting.{Setting}
 use Rattle.papergrid_config.specs.declared.spanned.SpannedConfig.{SpannedConfig}
 use Rattle.papergrid_walk.specs.Cells.{problem_of}
-use Rattle.papergrid_layout.specs.Answers.{AreBothSizes, AreSizesBy, AreTooLargeBy, HoldAlong, IsBothRefusedWhere, UnlessMemoryError}
+use Rattle.papergrid_layout.specs.Answers.{AreBothSizes, AreSizesBy, AreTooLargeBy, HoldAlong, IsBothRefused, IsBothRefusedWhere, UnlessMemoryError}
 use Rattle.papergrid_layout.specs.Certificates.{IsCertifiedBy, IsSolutionBy, solution_of}
-use Rattle.papergrid_layout.specs.Tables.{AreNoSizesBySizing, AreSizesBySizing, IsTableOf, TableParts, view_of}
+use Rattle.papergrid_layout.specs.Tables.{IsTableOf, TableParts, view_of}
 use Rattle.papergrid_layout.specs.declared.sizing.Sizing.{Sizing}
 use Rattle.papergrid_layout.specs.declared.sizing.Sizing.TheVariants.{ByShares, Least}
 use Rattle.papergrid_layout.specs.Places.{sized_table, total_along}
@@ -55,8 +55,8 @@ module _ {A : Type 0} (view : A → List ℕ) (config : SpannedConfig) (sizing :
 
   -- why there are none
   pub no-sizes : (e : LayoutError) → IsBothRefusedWhere (spanned_grid config) (λ x. text_measure (view x)) columns cells (AreTooLargeBy sizing) e →
-      AreNoSizesBySizing config text_measure (longest rows) rows sizing e
-  no-sizes e are = subst (λ n. AreNoSizesBySizing config text_measure n rows sizing e) counted (no-sizes-seen view config columns cells rows same sizing e are)
+      IsBothRefused (spanned_grid config) text_measure (longest rows) rows sizing e
+  no-sizes e are = subst (λ n. IsBothRefused (spanned_grid config) text_measure n rows sizing e) counted (no-sizes-seen view config columns cells rows same sizing e are)
 
 -- the drawing of rows of texts that are lent, by a table of them
 module _ (config : SpannedConfig) (sizing : Sizing) (lent : List (Bor (List (Bor (List ℕ))))) (table : TableParts) where
@@ -69,18 +69,18 @@ module _ (config : SpannedConfig) (sizing : Sizing) (lent : List (Bor (List (Bor
   is-drawing columns cells counted told is =
       let texts = rows_lent lent in
       let same = told_by (λ cell. cell.now) (λ text. text.now) (λ row. row.now) cells lent told in
-      let sized = subst (λ n. AreSizesBySizing config text_measure n texts sizing table.widths table.heights) counted
+      let sized = subst (λ n. AreBothSizes (spanned_grid config) text_measure n texts sizing table.widths table.heights) counted
       (sizes-seen (λ cell. cell.now.now) config columns cells texts same sizing table.widths table.heights is.1) in
       drawing-with (λ row. texts_lent row.now) table config (longest texts) sizing lent lent is.0 refl sized
 
 module _ (config : SpannedConfig) (rows : List (List (List ℕ))) (sizing : Sizing) where
-  pub unfound-unsized : (e : LayoutError) → UnlessMemoryError e (AreNoSizesBySizing config text_measure (longest rows) rows sizing e) → IsUnfound config rows sizing (layout_refusal e)
+  pub unfound-unsized : (e : LayoutError) → UnlessMemoryError e (IsBothRefused (spanned_grid config) text_measure (longest rows) rows sizing e) → IsUnfound config rows sizing (layout_refusal e)
   unfound-unsized (layout_errors.OutOfTable p) are = are
   unfound-unsized layout_errors.TooLarge are = are
   unfound-unsized (layout_errors.Memory e) are = tt
 
   -- there are no sizes to draw with
-  pub undrawn-unsized : (e : LayoutError) → UnlessMemoryError e (AreNoSizesBySizing config text_measure (longest rows) rows sizing e) → IsPictureRefused config rows sizing (layout_refusal e)
+  pub undrawn-unsized : (e : LayoutError) → UnlessMemoryError e (IsBothRefused (spanned_grid config) text_measure (longest rows) rows sizing e) → IsPictureRefused config rows sizing (layout_refusal e)
   undrawn-unsized (layout_errors.OutOfTable p) are = Unsized (layout_errors.OutOfTable p) refl are
   undrawn-unsized layout_errors.TooLarge are = Unsized layout_errors.TooLarge refl are
   undrawn-unsized (layout_errors.Memory e) are = tt

@@ -8,7 +8,7 @@ use Rattle.papergrid_config.specs.declared.spanned.SpannedConfig.{SpannedConfig}
 use Rattle.papergrid_config.specs.Grids.{spanned_grid}
 use Rattle.papergrid_layout.specs.Certificates.{AreSolutionsBy}
 use Rattle.papergrid_layout.specs.Places.{HasPlace, IsFirstOver, Overflows, total_along}
-use Rattle.papergrid_layout.specs.Tables.{AreNoSizesBySizing, TableParts, view_of}
+use Rattle.papergrid_layout.specs.Tables.{TableParts, view_of}
 use Rattle.papergrid_layout.specs.declared.rect.Place.{Place}
 use Rattle.papergrid_layout.specs.declared.sizing.Sizing.{Sizing}
 use Rattle.papergrid_tracks.specs.declared.error.LayoutError.{LayoutError}
@@ -18,6 +18,7 @@ use Rattle.papergrid_config.specs.Laws.{IsConfiguredBy}
 use Rattle.papergrid_builder.specs.Told.{FoundTable, longest}
 use Rattle.papergrid_builder.specs.declared.error.BuilderError.{BuilderError}
 use Rattle.papergrid_builder.specs.declared.error.BuilderError.TheVariants.{Hidden, Memory, NotEstimated, OutOfTable, TooLarge}
+use Rattle.papergrid_layout.specs.Answers.{IsBothRefused}
 
 -- the sizes that are chosen so for rows of texts by its configuration, their totals, and what certifies them
 abbrev pub AreFoundSizes : List (List (List ℕ)) → Sizing → FoundTable → Type 0
@@ -41,7 +42,7 @@ module _ (settings : List Setting) (rows : List (List (List ℕ))) (sizing : Siz
 
   -- why there are none
   abbrev pub HasNoSizes : LayoutError → Type 0
-  HasNoSizes e = (config : SpannedConfig) × IsConfiguredBy settings config × AreNoSizesBySizing config text_measure (longest rows) rows sizing e
+  HasNoSizes e = (config : SpannedConfig) × IsConfiguredBy settings config × IsBothRefused (spanned_grid config) text_measure (longest rows) rows sizing e
 
   -- the same of the error that is answered; an allocation may fail
   abbrev pub IsNoFoundTable : BuilderError → Type 0

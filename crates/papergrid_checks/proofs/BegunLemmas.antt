@@ -9,7 +9,6 @@ use Rattle.csv.specs.Reading.{AreRecords, Reached, strip_bom}
 use Rattle.csv.specs.declared.parser.Config.{Config}
 use Rattle.csv.specs.declared.parser.State.TheVariants as states
 use Rattle.papergrid_config.specs.declared.spanned.SpannedConfig.{SpannedConfig}
-use Rattle.papergrid_layout.specs.Tables.{AreSizesBySizing}
 use Rattle.papergrid_layout.specs.declared.sizing.Sizing.{Sizing}
 use Rattle.papergrid_layout.specs.declared.sizing.Sizing.TheVariants.{ByShares, Least}
 use Rattle.papergrid_draw.specs.Drawings.{Drawing}
@@ -23,6 +22,8 @@ use Rattle.papergrid_csv.specs.Rows.{config_of, greatest_length}
 use Rattle.papergrid_csv.specs.declared.request.Request.{Request}
 use Rattle.papergrid_csv.specs.declared.run.CsvEnd.TheVariants.{Drawn}
 use Rattle.papergrid_checks.specs.Written.{AppendsBeginning}
+use Rattle.papergrid_layout.specs.Answers.{AreBothSizes}
+use Rattle.papergrid_config.specs.Grids.{spanned_grid}
 
 -- ---- a text without bytes
 
@@ -34,7 +35,7 @@ no-records cfg (r ∷ rs) are = let found = are.2.1 in cc
 
 -- there are as many widths as columns
 widths-counted : (config : SpannedConfig) (columns : ℕ) (texts : List (List (List ℕ))) (sizing : Sizing) (widths heights : List ℕ) →
-    AreSizesBySizing config text_measure columns texts sizing widths heights → length widths ≡ columns
+    AreBothSizes (spanned_grid config) text_measure columns texts sizing widths heights → length widths ≡ columns
 widths-counted config columns texts ByShares widths heights are = are.widths.fits.one_each
 widths-counted config columns texts Least widths heights are = are.widths.least.fits.one_each
 

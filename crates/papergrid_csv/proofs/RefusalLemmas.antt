@@ -15,8 +15,7 @@ use Rattle.papergrid_config.specs.Parts.{span_calls}
 use Rattle.papergrid_config.specs.declared.setting.Setting.{Setting}
 use Rattle.papergrid_config.specs.Grids.{spanned_grid}
 use Rattle.papergrid_config.specs.declared.spanned.SpannedConfig.{SpannedConfig}
-use Rattle.papergrid_layout.specs.Answers.{first_out_of_table, overflows}
-use Rattle.papergrid_layout.specs.Tables.{AreNoSizesBySizing}
+use Rattle.papergrid_layout.specs.Answers.{IsBothRefused, first_out_of_table, overflows}
 use Rattle.papergrid_layout.specs.declared.sizing.Sizing.{Sizing}
 use Rattle.papergrid_layout.specs.declared.sizing.Sizing.TheVariants.{ByShares, Least}
 use Rattle.papergrid_draw.specs.Drawings.{Drawing, layout_of}
@@ -81,7 +80,7 @@ module _ (grid : Grid) (spans : HasNoSpans grid) (columns : ℕ) (texts : List (
 -- ---- why it is refused
 
 no-overflow : (config : SpannedConfig) (columns : ℕ) (rows : List (List (List ℕ))) (sizing : Sizing) (p : Position) → first_out_of_table (spanned_grid config) text_measure columns rows ≡ None →
-    AreNoSizesBySizing config text_measure columns rows sizing (layout_errors.OutOfTable p) → ⊥
+    IsBothRefused (spanned_grid config) text_measure columns rows sizing (layout_errors.OutOfTable p) → ⊥
 no-overflow config columns rows ByShares p none out = cc
 no-overflow config columns rows Least p none out = cc
 
@@ -109,7 +108,7 @@ fitted-no-spans (Some junctions) settings shape config fitted are = crossings-no
 
 module _ (request : Request) (empty : request.spans.items ≡ []) (columns : ℕ) (rows shown : List (List (List ℕ))) (full : All (λ row. length row ≡ columns) shown) where
   unsized-large : (config : SpannedConfig) → HasNoSpans (spanned_grid config) → (e : DrawError) → IsRefusal e → (error : LayoutError) → e ≡ draw_error_of error →
-      AreNoSizesBySizing config text_measure columns shown request.sizing error → e ≡ draw_errors.TooLarge
+      IsBothRefused (spanned_grid config) text_measure columns shown request.sizing error → e ≡ draw_errors.TooLarge
   unsized-large config spans e named (layout_errors.OutOfTable p) is none =
       absurd (no-overflow config columns shown request.sizing p (none-out (spanned_grid config) spans columns shown full) none)
   unsized-large config spans e named layout_errors.TooLarge is none = is

@@ -7,8 +7,7 @@ use Rattle.papergrid_tracks.specs.declared.error.LayoutError.TheVariants as layo
 use Rattle.papergrid_config.specs.History.{AppendsSettings}
 use Rattle.papergrid_config.specs.declared.setting.Setting.{Setting}
 use Rattle.papergrid_config.specs.declared.spanned.SpannedConfig.{SpannedConfig}
-use Rattle.papergrid_layout.specs.Answers.{UnlessMemoryError}
-use Rattle.papergrid_layout.specs.Tables.{AreNoSizesBySizing}
+use Rattle.papergrid_layout.specs.Answers.{IsBothRefused, UnlessMemoryError}
 use Rattle.papergrid_draw.specs.Drawings.{Drawing, layout_of}
 use Rattle.papergrid_draw.specs.Errors.{draw_error_of}
 use Rattle.papergrid_draw.specs.Faults.{IsDrawFault}
@@ -32,6 +31,7 @@ use Rattle.papergrid_csv.specs.declared.run.CsvEnd.{CsvEnd}
 use Rattle.papergrid_csv.specs.declared.run.CsvEnd.TheVariants.{Drawn, Hides, NoColumn, NotText, Ragged, Refused, TooWide, Unclosed}
 use Rattle.papergrid_csv.proofs.CutTextLemmas.{shown-length}
 use Rattle.papergrid_csv.proofs.DrawLemmas.{run-no_memory, run-silent}
+use Rattle.papergrid_config.specs.Grids.{spanned_grid}
 
 -- ---- a table
 
@@ -47,7 +47,7 @@ tile-fault d draw_errors.Write fault named = absurd fault
 module _ {W : Type 0} (contents : W → Option (List ℕ)) (has_failed has_stalled : W → Bool) where
   -- rows have no sizes
   pub unsized-run : (request : Request) (columns : ℕ) (texts : List (List (List ℕ))) (config : SpannedConfig) (w : W) (e : LayoutError) →
-      UnlessMemoryError e (AreNoSizesBySizing config text_measure columns texts request.sizing e) →
+      UnlessMemoryError e (IsBothRefused (spanned_grid config) text_measure columns texts request.sizing e) →
       RunsCsv contents has_failed has_stalled (IsConfigRun request columns texts config) w w (end_refused (draw_error_of e))
   unsized-run request columns texts config w (layout_errors.OutOfTable p) are =
       run-silent contents has_failed has_stalled (IsConfigRun request columns texts config) w (Refused (draw_errors.OutOfTable p))

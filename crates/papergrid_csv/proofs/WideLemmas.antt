@@ -14,7 +14,6 @@ use Rattle.papergrid_config.specs.declared.setting.Setting.{Setting}
 use Rattle.papergrid_config.specs.declared.spanned.SpannedConfig.{SpannedConfig}
 use Rattle.papergrid_layout.specs.Laws.{IsCellAt}
 use Rattle.papergrid_layout.specs.Places.{total_along}
-use Rattle.papergrid_layout.specs.Tables.{AreSizesBySizing}
 use Rattle.papergrid_layout.specs.declared.sizing.Sizing.{Sizing}
 use Rattle.papergrid_layout.specs.declared.sizing.Sizing.TheVariants.{ByShares, Least}
 use Rattle.papergrid_draw.specs.Drawings.{Drawing, layout_of}
@@ -38,6 +37,7 @@ use Rattle.papergrid_csv.proofs.PartLemmas.{crossings-none, frame-of, padding-of
 use Rattle.papergrid_csv.proofs.RowLemmas.{all-utf8}
 use Rattle.papergrid_csv.proofs.SeparatingLemmas.{fitted-separate, settings-separate}
 use Rattle.papergrid_csv.proofs.TableLemmas.{line-between}
+use Rattle.papergrid_layout.specs.Answers.{AreBothSizes}
 
 -- sizes that are chosen by either way fit
 pub record FitBoth (config : SpannedConfig) (columns : ℕ) (rows : List (List (List ℕ))) (widths heights : List ℕ) : Type 0 where
@@ -45,7 +45,7 @@ pub record FitBoth (config : SpannedConfig) (columns : ℕ) (rows : List (List (
   pub down : Fits (problem_of (spanned_grid config) text_measure columns rows Rows) heights
 
 pub both-fit : (config : SpannedConfig) (columns : ℕ) (rows : List (List (List ℕ))) (sizing : Sizing) (widths heights : List ℕ) →
-    AreSizesBySizing config text_measure columns rows sizing widths heights → FitBoth config columns rows widths heights
+    AreBothSizes (spanned_grid config) text_measure columns rows sizing widths heights → FitBoth config columns rows widths heights
 both-fit config columns rows ByShares widths heights are = record { across = are.widths.fits; down = are.heights.fits }
 both-fit config columns rows Least widths heights are = record { across = are.widths.least.fits; down = are.heights.least.fits }
 

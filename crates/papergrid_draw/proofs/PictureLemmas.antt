@@ -14,13 +14,13 @@ use Rattle.papergrid_config.specs.Grids.{spanned_grid}
 use Rattle.papergrid_config.specs.declared.setting.Setting.{Setting}
 use Rattle.papergrid_config.specs.declared.spanned.SpannedConfig.{SpannedConfig}
 use Rattle.papergrid_walk.specs.Cells.{problem_of}
-use Rattle.papergrid_layout.specs.Answers.{HoldAlong, IsBothRefusedWhere}
+use Rattle.papergrid_layout.specs.Answers.{AreBothSizes, HoldAlong, IsBothRefused, IsBothRefusedWhere}
 use Rattle.papergrid_layout.specs.Laws.{RowHasCell}
 use Rattle.papergrid_layout.specs.declared.sizing.Sizing.{Sizing}
 use Rattle.papergrid_layout.specs.declared.sizing.Sizing.TheVariants.{ByShares, Least}
 use Rattle.papergrid_layout.proofs.Told.{first_told, problem_told}
 use Rattle.papergrid_layout.specs.Answers.{UnlessMemoryError}
-use Rattle.papergrid_layout.specs.Tables.{AreNoSizesBySizing, AreSizesBySizing, TableParts}
+use Rattle.papergrid_layout.specs.Tables.{TableParts}
 use Rattle.papergrid_draw.specs.Contents.{lines_of}
 use Rattle.papergrid_draw.specs.Drawings.{Drawing, drawn_of}
 use Rattle.papergrid_draw.specs.Errors.{draw_error_of}
@@ -47,8 +47,8 @@ module _ {A : Type 0} (view : A → List ℕ) (config : SpannedConfig) (columns 
   }
 
   -- sizes that are chosen so
-  pub sizes-seen : (sizing : Sizing) (widths heights : List ℕ) → AreSizesBySizing config (λ x. text_measure (view x)) columns cells sizing widths heights →
-      AreSizesBySizing config text_measure columns texts sizing widths heights
+  pub sizes-seen : (sizing : Sizing) (widths heights : List ℕ) → AreBothSizes (spanned_grid config) (λ x. text_measure (view x)) columns cells sizing widths heights →
+      AreBothSizes (spanned_grid config) text_measure columns texts sizing widths heights
   sizes-seen ByShares widths heights are = along-seen AreSizes widths heights are
   sizes-seen Least widths heights are = along-seen AreLeastSizes widths heights are
 
@@ -65,8 +65,8 @@ module _ {A : Type 0} (view : A → List ℕ) (config : SpannedConfig) (columns 
   refused-seen too_large (layout_errors.Memory e) is = tt
 
   -- why there are none
-  pub no-sizes-seen : (sizing : Sizing) (e : LayoutError) → AreNoSizesBySizing config (λ x. text_measure (view x)) columns cells sizing e →
-      AreNoSizesBySizing config text_measure columns texts sizing e
+  pub no-sizes-seen : (sizing : Sizing) (e : LayoutError) → IsBothRefused (spanned_grid config) (λ x. text_measure (view x)) columns cells sizing e →
+      IsBothRefused (spanned_grid config) text_measure columns texts sizing e
   no-sizes-seen ByShares e is = refused-seen AreSizesTooLarge e is
   no-sizes-seen Least e is = refused-seen AreLeastTooLarge e is
 
@@ -96,7 +96,7 @@ unless-also (layout_errors.Memory e) follows is = tt
 
 -- the drawing of rows of texts that are lent, by a table of such sizes
 pub drawing-with : {R : Type 0} (texts : R → List (List ℕ)) (parts : TableParts) (config : SpannedConfig) (columns : ℕ) (sizing : Sizing) (lent held : List R) →
-    parts.config ≡ config → lent ≡ held → AreSizesBySizing config text_measure columns (map texts held) sizing parts.widths parts.heights →
+    parts.config ≡ config → lent ≡ held → AreBothSizes (spanned_grid config) text_measure columns (map texts held) sizing parts.widths parts.heights →
     IsDrawingWith columns (map texts held) sizing config (drawn_of (λ rows. lines_at text_lines (map texts rows)) (λ _ _. None) parts lent)
 drawing-with texts parts config columns sizing lent held same_config same_rows sized = record {
   widths = parts.widths;
@@ -107,13 +107,13 @@ drawing-with texts parts config columns sizing lent held same_config same_rows s
 
 -- sizes that are chosen so have room
 fits-by : (config : SpannedConfig) (columns : ℕ) (texts : List (List (List ℕ))) (sizing : Sizing) (widths heights : List ℕ) →
-    AreSizesBySizing config text_measure columns texts sizing widths heights → Fits (problem_of (spanned_grid config) text_measure columns texts Columns) widths
+    AreBothSizes (spanned_grid config) text_measure columns texts sizing widths heights → Fits (problem_of (spanned_grid config) text_measure columns texts Columns) widths
 fits-by config columns texts ByShares widths heights are = are.widths.fits
 fits-by config columns texts Least widths heights are = are.widths.least.fits
 
 -- so each visible cell has room in a drawing with them, whatever the colours are
 pub room-in : (config : SpannedConfig) (columns : ℕ) (texts : List (List (List ℕ))) (sizing : Sizing) (widths heights : List ℕ) (color : Position → Option (List ℕ × List ℕ)) →
-    AreSizesBySizing config text_measure columns texts sizing widths heights → AllHaveRoom (record (texts_drawing config texts widths heights) { color = color })
+    AreBothSizes (spanned_grid config) text_measure columns texts sizing widths heights → AllHaveRoom (record (texts_drawing config texts widths heights) { color = color })
 room-in config columns texts sizing widths heights color sized =
     let fits = fits-by config columns texts sizing widths heights sized in
     let counted = subst (λ n. Fits (problem_of (spanned_grid config) text_measure n texts Columns) widths) (sym fits.one_each) fits in
@@ -152,11 +152,11 @@ picture-has-room contents has_failed has_stalled IsDrawn text_of columns texts s
 module _ {W : Type 0} (contents : W → Option (List ℕ)) (has_failed has_stalled : W → Bool) (config : SpannedConfig) (columns : ℕ) (texts : List (List (List ℕ)))
     (sizing : Sizing) (text_of : Drawing → List ℕ) where
   -- there are no sizes
-  pub unsized : (w : W) (e : LayoutError) → UnlessMemoryError e (AreNoSizesBySizing config text_measure columns texts sizing e) →
+  pub unsized : (w : W) (e : LayoutError) → UnlessMemoryError e (IsBothRefused (spanned_grid config) text_measure columns texts sizing e) →
       IsUndrawn contents has_failed has_stalled (IsDrawingWith columns texts sizing config) (IsFaultWith columns texts sizing config) text_of w w (draw_error_of e)
   unsized w e are = draws-none contents has_failed has_stalled (IsDrawingWith columns texts sizing config) (IsFaultWith columns texts sizing config) text_of w (draw_error_of e) (no-write e) (named e are)
     where
-      named : (e : LayoutError) → UnlessMemoryError e (AreNoSizesBySizing config text_measure columns texts sizing e) → IsRefusal (draw_error_of e) → IsFaultWith columns texts sizing config (draw_error_of e)
+      named : (e : LayoutError) → UnlessMemoryError e (IsBothRefused (spanned_grid config) text_measure columns texts sizing e) → IsRefusal (draw_error_of e) → IsFaultWith columns texts sizing config (draw_error_of e)
       named (layout_errors.OutOfTable p) are is = Unsized (layout_errors.OutOfTable p) refl are
       named layout_errors.TooLarge are is = Unsized layout_errors.TooLarge refl are
       named (layout_errors.Memory e) are is = absurd is

@@ -4,7 +4,6 @@ use Rattle.papergrid_text.specs.HeldRows.{rows_held}
 use Rattle.papergrid_text.specs.declared.vec_records.VecRecords.{VecRecords}
 use Rattle.papergrid_config.specs.declared.setting.Setting.{Setting}
 use Rattle.papergrid_config.specs.declared.spanned.SpannedConfig.{SpannedConfig}
-use Rattle.papergrid_layout.specs.Tables.{AreNoSizesBySizing, AreSizesBySizing}
 use Rattle.papergrid_layout.specs.declared.sizing.Sizing.{Sizing}
 use Rattle.papergrid_tracks.specs.declared.error.LayoutError.{LayoutError}
 use Rattle.papergrid_draw.specs.Drawings.{Drawing}
@@ -14,6 +13,8 @@ use Rattle.papergrid_draw.specs.declared.error.DrawError.{DrawError}
 use Rattle.papergrid_draw.specs.Cells.{lines_at, text_lines}
 use Rattle.papergrid_walk.specs.Measures.{text_measure}
 use Rattle.papergrid_config.specs.Laws.{IsConfiguredBy}
+use Rattle.papergrid_layout.specs.Answers.{AreBothSizes, IsBothRefused}
+use Rattle.papergrid_config.specs.Grids.{spanned_grid}
 
 -- the texts of records that hold their rows
 abbrev pub texts_held : {T : Type 0} → (T → List ℕ) → VecRecords T → List (List (List ℕ))
@@ -35,12 +36,12 @@ module _ (columns : ℕ) (texts : List (List (List ℕ))) (sizing : Sizing) wher
   pub record IsDrawingWith (config : SpannedConfig) (d : Drawing) : Type 0 where
     pub widths : List ℕ
     pub heights : List ℕ
-    pub sized : AreSizesBySizing config text_measure columns texts sizing widths heights
+    pub sized : AreBothSizes (spanned_grid config) text_measure columns texts sizing widths heights
     pub is : d ≡ texts_drawing config texts widths heights
 
   -- why there is none by a configuration: there are no sizes, or it can't be drawn with them
   pub data IsFaultWith (config : SpannedConfig) (e : DrawError) : Type 0 where
-    Unsized : (error : LayoutError) → e ≡ draw_error_of error → AreNoSizesBySizing config text_measure columns texts sizing error → IsFaultWith config e
+    Unsized : (error : LayoutError) → e ≡ draw_error_of error → IsBothRefused (spanned_grid config) text_measure columns texts sizing error → IsFaultWith config e
     Undrawn : (d : Drawing) → IsDrawingWith config d → IsDrawFault d e → IsFaultWith config e
 
   module _ (settings : List Setting) where

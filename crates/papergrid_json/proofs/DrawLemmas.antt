@@ -4,8 +4,8 @@ use Rattle.std.specs.Prelude.{length, option_map, slice_index, string_bytes}
 use Rattle.std.specs.BTreeMap.{get}
 use Rattle.papergrid_values.specs.MapKeys.{position_cmp}
 use Rattle.papergrid_config.specs.declared.spanned.SpannedConfig.{SpannedConfig}
-use Rattle.papergrid_layout.specs.Answers.{UnlessMemory, UnlessMemoryError}
-use Rattle.papergrid_layout.specs.Tables.{AreNoSizesBySizing, AreSizesBySizing, IsTable, IsTableOf, IsTotalTooLarge, TableParts, view_of}
+use Rattle.papergrid_layout.specs.Answers.{AreBothSizes, IsBothRefused, UnlessMemory, UnlessMemoryError}
+use Rattle.papergrid_layout.specs.Tables.{IsTable, IsTableOf, IsTotalTooLarge, TableParts, view_of}
 use Rattle.papergrid_layout.specs.declared.sizing.Sizing.{Sizing}
 use Rattle.papergrid_tracks.specs.declared.error.LayoutError.{LayoutError}
 use Rattle.papergrid_tracks.specs.declared.error.LayoutError.TheVariants as layout_errors
@@ -23,6 +23,7 @@ use Rattle.papergrid_draw.proofs.PictureLemmas.{no-sizes-seen, room-in, sizes-se
 use Rattle.papergrid_json.specs.Pictures.{AreNoSizesOf, AreSizesOf, IsDocumentDrawing, IsDocumentFault, IsDocumentTable, IsDocumentDrawingWith, IsDocumentFaultWith, Unsized, document_texts}
 use Rattle.papergrid_json.specs.declared.document.Document.{Document}
 use Rattle.papergrid_json.specs.declared.document.OwnSizes.{OwnSizes}
+use Rattle.papergrid_config.specs.Grids.{spanned_grid}
 
 same-color : {A : Type 0} (color : Option A) → option_map (λ x. x) color ≡ color
 same-color None = refl
@@ -58,18 +59,18 @@ module _ (document : Document) (sizing : Sizing) (config : SpannedConfig) where
       let sized = sizes-seen (λ x. string_bytes (view x)) config columns so.0 (document_texts document) texts sizing table.widths table.heights so.2.1 in (
         so.2.0,
         subst (λ s. AreSizesOf document sizing config s table.widths table.heights) (sym none)
-            (subst (λ n. AreSizesBySizing config text_measure n (document_texts document) sizing table.widths table.heights) counted sized),
+            (subst (λ n. AreBothSizes (spanned_grid config) text_measure n (document_texts document) sizing table.widths table.heights) counted sized),
       )
   table-found view rows columns (Err (layout_errors.OutOfTable p)) none same counted so =
       let texts = told_by view string_bytes (λ row. row.items) so.0 rows so.1 ∙ ap (map (λ row. map string_bytes row.items)) same in
       let unsized = no-sizes-seen (λ x. string_bytes (view x)) config columns so.0 (document_texts document) texts sizing (layout_errors.OutOfTable p) so.2 in
       subst (λ s. AreNoSizesOf document sizing config s (layout_errors.OutOfTable p)) (sym none)
-      (subst (λ n. AreNoSizesBySizing config text_measure n (document_texts document) sizing (layout_errors.OutOfTable p)) counted unsized)
+      (subst (λ n. IsBothRefused (spanned_grid config) text_measure n (document_texts document) sizing (layout_errors.OutOfTable p)) counted unsized)
   table-found view rows columns (Err layout_errors.TooLarge) none same counted so =
       let texts = told_by view string_bytes (λ row. row.items) so.0 rows so.1 ∙ ap (map (λ row. map string_bytes row.items)) same in
       let unsized = no-sizes-seen (λ x. string_bytes (view x)) config columns so.0 (document_texts document) texts sizing layout_errors.TooLarge so.2 in
       subst (λ s. AreNoSizesOf document sizing config s layout_errors.TooLarge) (sym none)
-      (subst (λ n. AreNoSizesBySizing config text_measure n (document_texts document) sizing layout_errors.TooLarge) counted unsized)
+      (subst (λ n. IsBothRefused (spanned_grid config) text_measure n (document_texts document) sizing layout_errors.TooLarge) counted unsized)
   table-found view rows columns (Err (layout_errors.Memory e)) none same counted so = tt
 
   -- what is drawn of rows that are lent, by a table
@@ -105,9 +106,9 @@ module _ (document : Document) (sizing : Sizing) (config : SpannedConfig) where
       AllHaveRoom (rows_drawn rows parts)
   room-found rows parts same so none =
       let sized = subst (λ s. AreSizesOf document sizing config s parts.widths parts.heights) none so.1 in
-      let by_parts = subst (λ c. AreSizesBySizing c text_measure document.columns (document_texts document) sizing parts.widths parts.heights) (sym so.0) sized in
+      let by_parts = subst (λ c. AreBothSizes (spanned_grid c) text_measure document.columns (document_texts document) sizing parts.widths parts.heights) (sym so.0) sized in
       room-in parts.config document.columns (map (λ row. map string_bytes row.items) rows) sizing parts.widths parts.heights _
-      (subst (λ held. AreSizesBySizing parts.config text_measure document.columns (map (λ row. map string_bytes row.items) held) sizing parts.widths parts.heights) (sym same) by_parts)
+      (subst (λ held. AreBothSizes (spanned_grid parts.config) text_measure document.columns (map (λ row. map string_bytes row.items) held) sizing parts.widths parts.heights) (sym same) by_parts)
 
   -- why there are no sizes is why there is no picture
   pub unsized : (e : LayoutError) → UnlessMemoryError e (AreNoSizesOf document sizing config document.sizes e) → IsRefusal (draw_error_of e) → IsDocumentFaultWith document sizing config (draw_error_of e)

@@ -3,7 +3,7 @@ use Rattle.std.specs.Prelude.{◌≡◌, ℕ, List, Option, None, Some, Result, 
 use Rattle.std.specs.BTreeMap.{get}
 use Rattle.papergrid_values.specs.MapKeys.{position_cmp}
 use Rattle.papergrid_config.specs.declared.spanned.SpannedConfig.{SpannedConfig}
-use Rattle.papergrid_layout.specs.Tables.{AreNoSizesBySizing, AreSizesBySizing, IsTotalTooLarge, TableParts, view_of}
+use Rattle.papergrid_layout.specs.Tables.{IsTotalTooLarge, TableParts, view_of}
 use Rattle.papergrid_layout.specs.declared.sizing.Sizing.{Sizing}
 use Rattle.papergrid_tracks.specs.declared.error.LayoutError.{LayoutError}
 use Rattle.papergrid_tracks.specs.declared.error.LayoutError.TheVariants.{TooLarge}
@@ -16,6 +16,8 @@ use Rattle.papergrid_walk.specs.Measures.{text_measure}
 use Rattle.papergrid_config.specs.Laws.{IsConfiguredBy}
 use Rattle.papergrid_json.specs.declared.document.Document.{Document}
 use Rattle.papergrid_json.specs.declared.document.OwnSizes.{OwnSizes}
+use Rattle.papergrid_layout.specs.Answers.{AreBothSizes, IsBothRefused}
+use Rattle.papergrid_config.specs.Grids.{spanned_grid}
 
 -- the texts of a document, row by row
 abbrev pub document_texts : Document → List (List (List ℕ))
@@ -36,12 +38,12 @@ module _ (document : Document) (sizing : Sizing) where
   module _ (config : SpannedConfig) where
     -- its widths and heights: those of its own, else those that are chosen so
     abbrev pub AreSizesOf : Option OwnSizes → List ℕ → List ℕ → Type 0
-    AreSizesOf None widths heights = AreSizesBySizing config text_measure document.columns (document_texts document) sizing widths heights
+    AreSizesOf None widths heights = AreBothSizes (spanned_grid config) text_measure document.columns (document_texts document) sizing widths heights
     AreSizesOf (Some own) widths heights = (widths ≡ own.widths.items) × (heights ≡ own.heights.items)
 
     -- why it has none: there are none that are chosen so, or those of its own come to too much
     abbrev pub AreNoSizesOf : Option OwnSizes → LayoutError → Type 0
-    AreNoSizesOf None e = AreNoSizesBySizing config text_measure document.columns (document_texts document) sizing e
+    AreNoSizesOf None e = IsBothRefused (spanned_grid config) text_measure document.columns (document_texts document) sizing e
     AreNoSizesOf (Some own) e =
         (e ≡ TooLarge) × IsTotalTooLarge (view_of (record { config = config; widths = own.widths.items; heights = own.heights.items }))
 

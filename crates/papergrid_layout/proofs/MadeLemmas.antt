@@ -7,15 +7,15 @@ use Rattle.papergrid_tracks.specs.declared.error.LayoutError.{LayoutError}
 use Rattle.papergrid_tracks.specs.declared.error.LayoutError.TheVariants as layout_error
 use Rattle.papergrid_config.specs.declared.spanned.SpannedConfig.{SpannedConfig}
 use Rattle.papergrid_config.specs.Grids.{spanned_grid}
-use Rattle.papergrid_layout.specs.Answers.{UnlessMemory}
+use Rattle.papergrid_layout.specs.Answers.{AreBothSizes, UnlessMemory}
 use Rattle.papergrid_layout.specs.Places.{sized_table, total_along}
-use Rattle.papergrid_layout.specs.Tables.{AreSizesBySizing, IsTable, IsTableOf, IsTotalTooLarge, TableParts, view_of}
+use Rattle.papergrid_layout.specs.Tables.{IsTable, IsTableOf, IsTotalTooLarge, TableParts, view_of}
 use Rattle.papergrid_layout.specs.declared.sizing.Sizing.{Sizing}
 use Rattle.papergrid_layout.proofs.PlaceLaws.{both-fit, sizes-have-room}
 
 module _ {C : Type 0} (sizing : Sizing) (config : SpannedConfig) (measure : C → ℕ × ℕ) (columns : ℕ) (cells : List (List C)) (widths heights : List ℕ) where
   -- the totals of sizes that are chosen fit
-  pub chosen-fit : AreSizesBySizing config measure columns cells sizing widths heights → (direction : Direction) →
+  pub chosen-fit : AreBothSizes (spanned_grid config) measure columns cells sizing widths heights → (direction : Direction) →
       total_along (view_of (record { config = config; widths = widths; heights = heights })) direction < 2 ^ 64
   chosen-fit are direction =
       let have = sizes-have-room sizing (spanned_grid config) measure columns cells widths heights are in
@@ -24,7 +24,7 @@ module _ {C : Type 0} (sizing : Sizing) (config : SpannedConfig) (measure : C �
       (both-fit (spanned_grid config) measure columns cells widths heights have direction)
 
   -- so the table of them is not too large
-  pub made : (IsTold : List (List C) → Type 0) → IsTold cells → AreSizesBySizing config measure columns cells sizing widths heights →
+  pub made : (IsTold : List (List C) → Type 0) → IsTold cells → AreBothSizes (spanned_grid config) measure columns cells sizing widths heights →
       (answer : Result TableParts LayoutError) → IsTable (record { config = config; widths = widths; heights = heights }) answer →
       UnlessMemory answer ((x : List (List C)) × IsTold x × IsTableOf config measure columns x sizing answer)
   made IsTold told are (Ok table) is = (cells, told, rw is.0 (refl, are))

@@ -34,18 +34,10 @@ IsTable parts (Ok table) = (table ≡ parts) × ((direction : Direction) → tot
 IsTable parts (Err e) = UnlessMemoryError e ((e ≡ layout_error.TooLarge) × IsTotalTooLarge (view_of parts))
 
 module _ {C : Type 0} (config : SpannedConfig) (measure : C → ℕ × ℕ) (columns : ℕ) (cells : List (List C)) where
-  -- these widths and heights are chosen so
-  abbrev pub AreSizesBySizing : Sizing → List ℕ → List ℕ → Type 0
-  AreSizesBySizing sizing widths heights = AreBothSizes (spanned_grid config) measure columns cells sizing widths heights
-
-  -- why there are none
-  abbrev pub AreNoSizesBySizing : Sizing → LayoutError → Type 0
-  AreNoSizesBySizing sizing e = IsBothRefused (spanned_grid config) measure columns cells sizing e
-
   -- the table of these cells by the configuration, or why there is none
   abbrev pub IsTableOf : Sizing → Result TableParts LayoutError → Type 0
-  IsTableOf sizing (Ok table) = (table.config ≡ config) × AreSizesBySizing sizing table.widths table.heights
-  IsTableOf sizing (Err e) = AreNoSizesBySizing sizing e
+  IsTableOf sizing (Ok table) = (table.config ≡ config) × AreBothSizes (spanned_grid config) measure columns cells sizing table.widths table.heights
+  IsTableOf sizing (Err e) = IsBothRefused (spanned_grid config) measure columns cells sizing e
 
 -- the cell at a position has this screen rectangle; else it is hidden, else it overflows the table
 abbrev pub IsPlacedIn : TableView → Position → Result Place PlaceError → Type 0

@@ -1,7 +1,6 @@
 -- Why rows of texts have no sizes by a configuration, or no picture.
 use Rattle.std.specs.Prelude.{⊤, ℕ, List}
 use Rattle.papergrid_config.specs.declared.spanned.SpannedConfig.{SpannedConfig}
-use Rattle.papergrid_layout.specs.Tables.{AreNoSizesBySizing}
 use Rattle.papergrid_layout.specs.declared.sizing.Sizing.{Sizing}
 use Rattle.papergrid_tracks.specs.declared.error.LayoutError.TheVariants as layout_errors
 use Rattle.papergrid_draw.specs.declared.error.DrawError.TheVariants as draw_errors
@@ -10,12 +9,14 @@ use Rattle.papergrid_draw.specs.Pictures.{IsFaultWith}
 use Rattle.papergrid_builder.specs.Told.{longest}
 use Rattle.papergrid_builder.specs.declared.error.BuilderError.{BuilderError}
 use Rattle.papergrid_builder.specs.declared.error.BuilderError.TheVariants.{Memory, NotTiled, OutOfTable, TooLarge}
+use Rattle.papergrid_layout.specs.Answers.{IsBothRefused}
+use Rattle.papergrid_config.specs.Grids.{spanned_grid}
 
 module _ (config : SpannedConfig) (rows : List (List (List ℕ))) (sizing : Sizing) where
   -- why there are none; an allocation may fail
   abbrev pub IsUnfound : BuilderError → Type 0
-  IsUnfound (OutOfTable p) = AreNoSizesBySizing config text_measure (longest rows) rows sizing (layout_errors.OutOfTable p)
-  IsUnfound TooLarge = AreNoSizesBySizing config text_measure (longest rows) rows sizing layout_errors.TooLarge
+  IsUnfound (OutOfTable p) = IsBothRefused (spanned_grid config) text_measure (longest rows) rows sizing (layout_errors.OutOfTable p)
+  IsUnfound TooLarge = IsBothRefused (spanned_grid config) text_measure (longest rows) rows sizing layout_errors.TooLarge
   IsUnfound Memory = ⊤
   IsUnfound e = ⊥
 

@@ -1,12 +1,13 @@
 use Rattle.std.proofs.Common.{◌∙◌, ap, map, refl, subst}
 use Rattle.std.proofs.lemmas.Result.{err_from_is_err_and}
 use Rattle.papergrid_text.proofs.RowSteps.{told_by}
-use Rattle.papergrid_layout.specs.Tables.{AreNoSizesBySizing, AreSizesBySizing}
 use Rattle.papergrid_draw.specs.Lined.{lined}
 use Rattle.papergrid_walk.specs.Measures.{text_measure}
 use Rattle.papergrid_script.specs.Seen.{row_texts_of, rows_seen}
 use Rattle.papergrid_draw.proofs.PictureLemmas.{drawing-with, drawn-so, no-sizes-seen, room-with, sizes-seen, unless-also, unsized}
 use Rattle.papergrid.proofs.drawing.draw_rows.Goals as goal
+use Rattle.papergrid_layout.specs.Answers.{AreBothSizes, IsBothRefused}
+use Rattle.papergrid_config.specs.Grids.{spanned_grid}
 
 pub returns-in_err-table : goal.returns-in_err-table
 returns-in_err-table g c =
@@ -17,7 +18,7 @@ returns-in_err-table g c =
     let p = err_from_is_err_and c.from_residual-in_err-table.result c.from_residual-in_err-table.ensures.1 in
     rw (p.1, p.2)
     (unsized g.W.Sink.contents g.W.Sink.has_failed g.W.Sink.has_stalled c.args.config.now c.args.columns texts c.args.sizing lined c.args.writer.now e
-    (unless-also e (λ told. subst (λ n. AreNoSizesBySizing c.args.config.now text_measure n texts c.args.sizing e) columns
+    (unless-also e (λ told. subst (λ n. IsBothRefused (spanned_grid c.args.config.now) text_measure n texts c.args.sizing e) columns
     (no-sizes-seen (λ cell. cell.now.now) c.args.config.now _ told.0 texts
     (told_by (λ cell. cell.now) (λ text. text.now) (λ row. row.now) told.0 c.args.rows.now (told.1 ∙ ap (map (λ row. row.now)) rows)) c.args.sizing e told.2)) c.in_err-table.ensures))
 
@@ -28,7 +29,7 @@ draw_lines-requires g c = λ known.
     let columns = ap (λ r. r.count_columns) c.new-records.ensures in
     let told = c.in_ok-table.ensures in
     let same = told_by (λ cell. cell.now) (λ text. text.now) (λ row. row.now) told.0 c.args.rows.now (told.1 ∙ ap (map (λ row. row.now)) rows) in
-    let sized = subst (λ n. AreSizesBySizing c.args.config.now text_measure n texts c.args.sizing c.in_ok-table.table.widths c.in_ok-table.table.heights) columns
+    let sized = subst (λ n. AreBothSizes (spanned_grid c.args.config.now) text_measure n texts c.args.sizing c.in_ok-table.table.widths c.in_ok-table.table.heights) columns
     (sizes-seen (λ cell. cell.now.now) c.args.config.now _ told.0 texts same c.args.sizing _ _ told.2.1) in
     room-with c.args.columns texts c.args.sizing c.args.config.now _
     (drawing-with (λ row. row_texts_of row.now) c.in_ok-table.table c.args.config.now c.args.columns c.args.sizing c.args.rows.now c.args.rows.now
@@ -41,7 +42,7 @@ returns g c =
     let columns = ap (λ r. r.count_columns) c.new-records.ensures in
     let told = c.in_ok-table.ensures in
     let same = told_by (λ cell. cell.now) (λ text. text.now) (λ row. row.now) told.0 c.args.rows.now (told.1 ∙ ap (map (λ row. row.now)) rows) in
-    let sized = subst (λ n. AreSizesBySizing c.args.config.now text_measure n texts c.args.sizing c.in_ok-table.table.widths c.in_ok-table.table.heights) columns
+    let sized = subst (λ n. AreBothSizes (spanned_grid c.args.config.now) text_measure n texts c.args.sizing c.in_ok-table.table.widths c.in_ok-table.table.heights) columns
     (sizes-seen (λ cell. cell.now.now) c.args.config.now _ told.0 texts same c.args.sizing _ _ told.2.1) in
     drawn-so g.W.Sink.contents g.W.Sink.has_failed g.W.Sink.has_stalled c.args.config.now c.args.columns texts c.args.sizing lined _
     (drawing-with (λ row. row_texts_of row.now) c.in_ok-table.table c.args.config.now c.args.columns c.args.sizing c.args.rows.now c.args.rows.now

@@ -1,7 +1,6 @@
 use Rattle.std.proofs.Common.{◌∙◌, ◌++◌, ap, map, subst}
 use Rattle.std.proofs.lemmas.Result.{err_from_is_err_and}
 use Rattle.papergrid_text.proofs.RowSteps.{told_by}
-use Rattle.papergrid_layout.specs.Tables.{AreNoSizesBySizing}
 use Rattle.papergrid_draw.specs.Faults.{IsDrawFault}
 use Rattle.papergrid_draw.specs.Lined.{lined}
 use Rattle.papergrid_walk.specs.Measures.{text_measure}
@@ -11,6 +10,8 @@ use Rattle.papergrid_builder.specs.Told.{longest}
 use Rattle.papergrid_builder.specs.ForProofs.Texts.{rows_lent}
 use Rattle.papergrid_builder.proofs.DrawLemmas.{drawing-lent, is-drawing, undrawn-unsized}
 use Rattle.papergrid_builder.proofs.drawn.drawn_by.Goals as goal
+use Rattle.papergrid_layout.specs.Answers.{IsBothRefused}
+use Rattle.papergrid_config.specs.Grids.{spanned_grid}
 
 pub returns-in_err-table-clause-err : goal.returns-in_err-table-clause-err
 returns-in_err-table-clause-err c =
@@ -19,7 +20,7 @@ returns-in_err-table-clause-err c =
     let rows = ap (λ r. r.iter.items) c.new-records.ensures ∙ c.in_ok-from_slice.ensures.items in
     let columns = ap (λ r. r.count_columns) c.new-records.ensures ∙ c.longest_of-columns.ensures in
     let p = err_from_is_err_and c.from_residual-in_err-table.result c.from_residual-in_err-table.ensures.1 in
-    rw (p.1, p.2) (undrawn-unsized c.args.config.now texts c.args.sizing e (unless-also e (λ told. subst (λ n. AreNoSizesBySizing c.args.config.now text_measure n texts c.args.sizing e) columns
+    rw (p.1, p.2) (undrawn-unsized c.args.config.now texts c.args.sizing e (unless-also e (λ told. subst (λ n. IsBothRefused (spanned_grid c.args.config.now) text_measure n texts c.args.sizing e) columns
     (no-sizes-seen (λ cell. cell.now.now) c.args.config.now _ told.0 texts
     (told_by (λ cell. cell.now) (λ text. text.now) (λ row. row.now) told.0 c.args.rows.now (told.1 ∙ ap (map (λ row. row.now)) rows)) c.args.sizing e told.2)) c.in_err-table.ensures))
 

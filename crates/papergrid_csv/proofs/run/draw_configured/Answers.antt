@@ -1,6 +1,5 @@
 use Rattle.std.proofs.Common.{◌∙◌, ap, map, refl, subst}
 use Rattle.papergrid_text.proofs.RowSteps.{told_by}
-use Rattle.papergrid_layout.specs.Tables.{AreNoSizesBySizing, AreSizesBySizing}
 use Rattle.papergrid_draw.specs.Drawings.{Drawing}
 use Rattle.papergrid_walk.specs.Measures.{text_measure}
 use Rattle.papergrid_draw.specs.Pictures.{texts_drawing}
@@ -10,6 +9,8 @@ use Rattle.papergrid_csv.specs.ForProofs.Drawn.{IsConfigRun, IsPictured, IsTable
 use Rattle.papergrid_script.proofs.RunLemmas.{runs-also}
 use Rattle.papergrid_csv.proofs.RunLemmas.{unsized-run}
 use Rattle.papergrid_csv.proofs.run.draw_configured.Goals as goal
+use Rattle.papergrid_layout.specs.Answers.{AreBothSizes, IsBothRefused}
+use Rattle.papergrid_config.specs.Grids.{spanned_grid}
 
 pub returns-in-Err : goal.returns-in-Err
 returns-in-Err g c =
@@ -18,7 +19,7 @@ returns-in-Err g c =
     let columns = ap (λ r. r.count_columns) c.new-records.ensures in
     rw (c.end_refused.ensures, c.from.ensures)
     (unsized-run g.W.Sink.contents g.W.Sink.has_failed g.W.Sink.has_stalled c.args.request.now c.args.columns texts c.args.config.now c.args.writer.now c.in-Err.error
-    (unless-also c.in-Err.error (λ told. subst (λ n. AreNoSizesBySizing c.args.config.now text_measure n texts c.args.request.now.sizing c.in-Err.error) columns
+    (unless-also c.in-Err.error (λ told. subst (λ n. IsBothRefused (spanned_grid c.args.config.now) text_measure n texts c.args.request.now.sizing c.in-Err.error) columns
     (no-sizes-seen (λ cell. cell.now.now) c.args.config.now _ told.0 texts
     (told_by (λ cell. cell.now) (λ text. text.now) (λ row. row.items) told.0 c.args.rows.now (told.1 ∙ ap (map (λ row. row.items)) rows)) c.args.request.now.sizing c.in-Err.error told.2)) c.in-Err.ensures))
 
@@ -29,7 +30,7 @@ draw_table-requires g c =
     let columns = ap (λ r. r.count_columns) c.new-records.ensures in
     let told = c.in-Ok.ensures in
     let same = told_by (λ cell. cell.now) (λ text. text.now) (λ row. row.items) told.0 c.args.rows.now (told.1 ∙ ap (map (λ row. row.items)) rows) in
-    let sized = subst (λ n. AreSizesBySizing c.args.config.now text_measure n texts c.args.request.now.sizing c.in-Ok.table.widths c.in-Ok.table.heights) columns
+    let sized = subst (λ n. AreBothSizes (spanned_grid c.args.config.now) text_measure n texts c.args.request.now.sizing c.in-Ok.table.widths c.in-Ok.table.heights) columns
     (sizes-seen (λ cell. cell.now.now) c.args.config.now _ told.0 texts same c.args.request.now.sizing _ _ told.2.1) in
     room-with c.args.columns texts c.args.request.now.sizing c.args.config.now _
     (drawing-with row_texts c.in-Ok.table c.args.config.now c.args.columns c.args.request.now.sizing c.args.rows.now c.args.rows.now told.2.0 refl sized)
@@ -41,7 +42,7 @@ returns-in-Ok g c =
     let columns = ap (λ r. r.count_columns) c.new-records.ensures in
     let told = c.in-Ok.ensures in
     let same = told_by (λ cell. cell.now) (λ text. text.now) (λ row. row.items) told.0 c.args.rows.now (told.1 ∙ ap (map (λ row. row.items)) rows) in
-    let sized = subst (λ n. AreSizesBySizing c.args.config.now text_measure n texts c.args.request.now.sizing c.in-Ok.table.widths c.in-Ok.table.heights) columns
+    let sized = subst (λ n. AreBothSizes (spanned_grid c.args.config.now) text_measure n texts c.args.request.now.sizing c.in-Ok.table.widths c.in-Ok.table.heights) columns
     (sizes-seen (λ cell. cell.now.now) c.args.config.now _ told.0 texts same c.args.request.now.sizing _ _ told.2.1) in
     let drawn = drawing-with row_texts c.in-Ok.table c.args.config.now c.args.columns c.args.request.now.sizing c.args.rows.now c.args.rows.now told.2.0 refl sized in
     let d : Drawing = texts_drawing c.in-Ok.table.config texts c.in-Ok.table.widths c.in-Ok.table.heights in
