@@ -118,8 +118,8 @@ pub fn run_table<S: Source, W: Sink>(
     // Of a reader and a writer that had not failed.
     requires reader { S.has_failed reader.old ≡ false }
     requires writer { W.has_failed writer.old ≡ false }
-    // The picture that it tells was written, or why it has none, and nothing else. The whole input is kept, and no end failed.
-    // Or which fault comes, and what it leaves.
+    // The picture that it tells was written, or why it has none, and nothing else. The whole input is kept, and neither the reader
+    // nor the writer failed. Or which fault comes, and what it leaves of them and of the vector.
     ensures { Runs S.remaining S.has_failed W.contents W.has_failed W.has_stalled
         reader.old reader.new writer.old writer.new input.old input.new
         (IsPictureRun sizing input.new.items)

@@ -76,8 +76,8 @@ pub fn run_csv<S: Source, W: Sink>(
     // Of a reader and a writer that had not failed.
     requires reader { S.has_failed reader.old ≡ false }
     requires writer { W.has_failed writer.old ≡ false }
-    // The picture of its table was written, or nothing where it has none. The whole input is kept, and no end failed. Or which
-    // fault comes, and what it leaves.
+    // The picture of its table was written, or nothing where it has none. The whole input is kept, and neither the reader nor the
+    // writer failed. Or which fault comes, and what it leaves of them and of the vector.
     ensures { Runs S.remaining S.has_failed W.contents W.has_failed W.has_stalled
         reader.old reader.new writer.old writer.new input.old input.new
         (IsCsvRun request.now input.new.items) (IsCsvRun request.now input.new.items Drawn)

@@ -36,8 +36,8 @@ pub fn run_csv_within<S: Source, W: Sink>(
     // Of a reader and a writer that had not failed.
     requires reader { S.has_failed reader.old ≡ false }
     requires writer { W.has_failed writer.old ≡ false }
-    // The picture of its table, with fields cut as the request says now, was written, or nothing where it has none. The whole
-    // input is kept, and no end failed. Or which fault comes, and what it leaves.
+    // The picture of its table, with fields cut as the request says now, was written, or nothing where it has none. The rest is
+    // as of `run_csv`.
     ensures runs { Runs S.remaining S.has_failed W.contents W.has_failed W.has_stalled
         reader.old reader.new writer.old writer.new input.old input.new
         (IsRunWithin request.old width input.new.items request.new.cut)
