@@ -5,9 +5,9 @@ use Rattle.std.specs.Cmp.{nat_eq_equiv}
 use Rattle.std.proofs.lemmas.Bool.{and_from, and_parts, eqb-true, false≢true}
 use Rattle.papergrid_values.specs.declared.position.Position.{Position}
 use Rattle.papergrid_values.specs.contracts.position.PositionPartialEq.TheImpl as position
-use Rattle.papergrid_layout.specs.declared.sizing.Sizing.{Sizing}
-use Rattle.papergrid_layout.specs.declared.sizing.Sizing.TheVariants.{ByShares, Least}
-use Rattle.papergrid_layout.specs.contracts.sizing.SizingPartialEq.TheImpl as sizing
+use Rattle.papergrid_tracks.specs.declared.sizing.Sizing.{Sizing}
+use Rattle.papergrid_tracks.specs.declared.sizing.Sizing.TheVariants.{ByShares, Least}
+use Rattle.papergrid_tracks.specs.contracts.sizing.SizingPartialEq.TheImpl as sizing
 use Rattle.papergrid_script.specs.declared.explained.Reason.{Reason}
 use Rattle.papergrid_script.specs.declared.explained.Reason.TheVariants.{BadLine, OutOfTable, TooLarge}
 use Rattle.papergrid_script.specs.contracts.explained.ReasonPartialEq.TheImpl as reason

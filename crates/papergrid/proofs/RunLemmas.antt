@@ -3,13 +3,14 @@ use Rattle.std.proofs.Common.{◌≡◌, ◌≢◌, ◌∙◌, ℕ, Bool, List, 
 use Rattle.std.specs.Prelude.{◌↔◌, ⊤, IfErr, IfOk, IsErrOf, OnOk, take}
 use Rattle.std.specs.Io.KnownBytes.{Appends}
 use Rattle.papergrid_config.specs.declared.spanned.SpannedConfig.{SpannedConfig}
-use Rattle.papergrid_layout.specs.declared.sizing.Sizing.{Sizing}
+use Rattle.papergrid_tracks.specs.declared.sizing.Sizing.{Sizing}
+use Rattle.papergrid_tracks.specs.declared.sizing.Sizing.TheVariants.{ByShares}
 use Rattle.papergrid_draw.specs.Drawings.{Drawing}
 use Rattle.papergrid_draw.specs.declared.error.DrawError.{DrawError}
 use Rattle.papergrid_draw.specs.declared.error.DrawError.TheVariants as draw_errors
 use Rattle.papergrid_draw.specs.Lined.{lined}
 use Rattle.papergrid_config.specs.Laws.{IsConfiguredBy}
-use Rattle.papergrid_script.specs.Outputs.{output_of, run_end_of}
+use Rattle.papergrid_script.specs.Outputs.{end_by, output_by}
 use Rattle.papergrid_script.specs.Runs.{HasRun, IsRunFault}
 use Rattle.papergrid_script.specs.Scripts.{Table, table_of}
 use Rattle.papergrid_script.specs.declared.answer.RunEnd.{RunEnd}
@@ -83,10 +84,10 @@ module _ {R W : Type 0} (remaining : R → Option (List ℕ)) (read_failed : R �
   Broke old fault = IsRunFault remaining read_failed contents has_failed has_stalled reader_old reader_new writer_old writer_new old input fault
 
   -- what the run leaves, where nobody sees what it kept
-  pub ran-unseen : (result : Result RunEnd RunFault) → OnOk result (Ran before) → OnOk result (Appends (contents writer_old) (contents writer_new) (output_of input.items)) →
-      IfOk result (λ end. end ≡ run_end_of input.items) →
+  pub ran-unseen : (result : Result RunEnd RunFault) → OnOk result (Ran before) → OnOk result (Appends (contents writer_old) (contents writer_new) (output_by ByShares input.items)) →
+      IfOk result (λ end. end ≡ end_by ByShares input.items) →
       IfOk result (λ end. (kept : Vec ℕ Global) × HasRun remaining read_failed contents has_failed has_stalled reader_old reader_new writer_old writer_new kept kept
-      × Appends (contents writer_old) (contents writer_new) (output_of kept.items) × (end ≡ run_end_of kept.items))
+      × Appends (contents writer_old) (contents writer_new) (output_by ByShares kept.items) × (end ≡ end_by ByShares kept.items))
   ran-unseen (Ok end) ran written ended = (
     input,
     record {
@@ -107,8 +108,8 @@ module _ {R W : Type 0} (remaining : R → Option (List ℕ)) (read_failed : R �
   broke-unseen run_faults.Write is = record { reader_works = is.reader_works; write = is.write; kept = is.kept }
 
   pub fault-unseen : (result : Result RunEnd RunFault) → IfErr result (Broke before) →
-      (IsErrOf result run_faults.Write → (n : ℕ) × Appends (contents writer_old) (contents writer_new) (take n (output_of input.items))) →
+      (IsErrOf result run_faults.Write → (n : ℕ) × Appends (contents writer_old) (contents writer_new) (take n (output_by ByShares input.items))) →
       IfErr result (λ fault. (kept : Vec ℕ Global) × IsRunFault remaining read_failed contents has_failed has_stalled reader_old reader_new writer_old writer_new kept kept fault
-      × (fault ≡ run_faults.Write → (n : ℕ) × Appends (contents writer_old) (contents writer_new) (take n (output_of kept.items))))
+      × (fault ≡ run_faults.Write → (n : ℕ) × Appends (contents writer_old) (contents writer_new) (take n (output_by ByShares kept.items))))
   fault-unseen (Ok end) broke begun = tt
   fault-unseen (Err fault) broke begun = (input, broke-unseen fault broke, λ is. begun (ap Err is))

@@ -1,6 +1,6 @@
 -- The picture of a script.
 use Rattle.std.specs.Prelude.{◌≡◌, ℕ, List, [], ◌∷◌, ◌++◌, codes, decimal, Result, Ok, Err}
-use Rattle.papergrid_layout.specs.declared.sizing.Sizing.{Sizing}
+use Rattle.papergrid_tracks.specs.declared.sizing.Sizing.{Sizing}
 use Rattle.papergrid_draw.specs.Drawings.{Drawing}
 use Rattle.papergrid_draw.specs.declared.error.DrawError.{DrawError}
 use Rattle.papergrid_draw.specs.declared.error.DrawError.TheVariants.{Memory, NoRoom, NotTiled, OutOfTable, TooLarge, Write}

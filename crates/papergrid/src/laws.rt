@@ -6,7 +6,7 @@ ghost use Rattle.papergrid_values.specs.declared.position.Position.{Position};
 ghost use Rattle.papergrid_text.specs.Measured.{measured_text};
 ghost use Rattle.papergrid_text.specs.declared.transfer.Failed.{Failed};
 ghost use Rattle.papergrid_layout.specs.Tables.{TableParts};
-ghost use Rattle.papergrid_layout.specs.declared.sizing.Sizing.{Sizing};
+ghost use Rattle.papergrid_tracks.specs.declared.sizing.Sizing.{Sizing};
 ghost use Rattle.papergrid_draw.specs.Cells.{text_lines};
 ghost use Rattle.papergrid_draw.specs.Drawings.{Drawing};
 ghost use Rattle.papergrid_script.specs.declared.answer.RunEnd.{RunEnd};

@@ -3,7 +3,8 @@
 ghost use Rattle.std.specs.Prelude.{◌≡◌, ℕ, Vec, take, false, IfErr, IfOk, IfSome, OnOk, IsErrOf};
 ghost use Rattle.std.specs.declared.alloc.Global.{Global};
 ghost use Rattle.std.specs.Io.KnownBytes.{Appends};
-ghost use Rattle.papergrid_script.specs.Outputs.{end_by, output_by, output_of, run_end_of};
+ghost use Rattle.papergrid_tracks.specs.declared.sizing.Sizing.TheVariants.{ByShares};
+ghost use Rattle.papergrid_script.specs.Outputs.{end_by, output_by};
 ghost use Rattle.papergrid_script.specs.Runs.{HasRun, IsRunFault};
 ghost use Rattle.papergrid_script.specs.declared.reading.RunFault.TheVariants.{Memory, Write};
 
@@ -35,26 +36,26 @@ pub fn run<S: Source, W: Sink>(
     requires writer { W.has_failed writer.old ≡ false }
     // What the input means was written and nothing else.
     ensures written { OnOk result (IfSome (S.remaining reader.old) (λ input.
-        Appends (W.contents writer.old) (W.contents writer.new) (output_of input))) }
+        Appends (W.contents writer.old) (W.contents writer.new) (output_by ByShares input))) }
     ensures answer { IfOk result (λ end. IfSome (S.remaining reader.old) (λ input.
-        end ≡ run_end_of input)) }
+        end ≡ end_by ByShares input)) }
     // So of some input where the reader does not tell its bytes. It was read to its end, and no read and no write failed. Each
     // write of a piece that isn't empty took a byte, of a writer that had not stalled before.
     ensures ran { IfOk result (λ end. (input : Vec ℕ Global)
         × HasRun S.remaining S.has_failed W.contents W.has_failed W.has_stalled
         reader.old reader.new writer.old writer.new input input
-        × Appends (W.contents writer.old) (W.contents writer.new) (output_of input.items)
-        × (end ≡ run_end_of input.items)) }
+        × Appends (W.contents writer.old) (W.contents writer.new) (output_by ByShares input.items)
+        × (end ≡ end_by ByShares input.items)) }
     // Which fault comes, and what it leaves of the reader and of the writer.
     ensures fault { IfErr result (λ fault. (input : Vec ℕ Global)
         × IsRunFault S.remaining S.has_failed W.contents W.has_failed W.has_stalled
         reader.old reader.new writer.old writer.new input input fault
         × (fault ≡ Write → (n : ℕ) × Appends (W.contents writer.old) (W.contents writer.new)
-        (take n (output_of input.items)))) }
+        (take n (output_by ByShares input.items)))) }
     ensures memory_nothing { IsErrOf result Memory → writer.new ≡ writer.old }
     ensures beginning { IsErrOf result Write → IfSome (S.remaining reader.old) (λ input.
         (n : ℕ) × Appends (W.contents writer.old) (W.contents writer.new)
-        (take n (output_of input))) }
+        (take n (output_by ByShares input))) }
 {
     let mut input = Vec::new(alloc);
     run_keeping(alloc, Sizing::ByShares, reader, writer, &mut input)

@@ -5,8 +5,9 @@ ghost use Rattle.papergrid_config.specs.Applied.{is_in_range};
 ghost use Rattle.papergrid_config.specs.declared.spanned.SpannedConfig.{SpannedConfig};
 ghost use Rattle.papergrid_config.specs.Grids.{spanned_grid};
 ghost use Rattle.papergrid_walk.specs.Measures.{line_measure};
+ghost use Rattle.papergrid_tracks.specs.declared.sizing.Sizing.TheVariants as sizings;
 ghost use Rattle.papergrid_layout.specs.Answers.{UnlessMemory};
-ghost use Rattle.papergrid.specs.Layouts.{IsLaidOut, IsLaidOutLeast};
+ghost use Rattle.papergrid.specs.Layouts.{IsLaidOut};
 ghost use Rattle.papergrid_config.specs.Laws.{IsConfiguredBy};
 ghost use Rattle.papergrid_script.specs.Grids.{grid_of};
 ghost use Rattle.papergrid_text.specs.Records.{TellsRows};
@@ -41,13 +42,13 @@ where
     requires in_range { All (λ setting. is_in_range setting ≡ true) settings.items }
     ensures sizes { UnlessMemory result (TellsRows R.tells records (λ cells.
         IsLaidOut (grid_of settings.items) (line_measure R.Iter.Cell.text)
-        (R.columns records) cells result)) }
+        (R.columns records) cells sizings.ByShares result)) }
     // So by a configuration that the settings tell, and that holds for each cell what they decide.
     ensures settings { UnlessMemory result ((config : SpannedConfig)
         × IsConfiguredBy settings.items config
         × TellsRows R.tells records (λ cells.
         IsLaidOut (spanned_grid config) (line_measure R.Iter.Cell.text)
-        (R.columns records) cells result)) }
+        (R.columns records) cells sizings.ByShares result)) }
 {
     let config = configuration(alloc, settings)?;
     laid_out(IterGridDimension::new(alloc), records, &config)
@@ -74,14 +75,14 @@ where
     requires lawful { R.is_lawful records }
     requires in_range { All (λ setting. is_in_range setting ≡ true) settings.items }
     ensures sizes { UnlessMemory result (TellsRows R.tells records (λ cells.
-        IsLaidOutLeast (grid_of settings.items) (line_measure R.Iter.Cell.text)
-        (R.columns records) cells result)) }
+        IsLaidOut (grid_of settings.items) (line_measure R.Iter.Cell.text)
+        (R.columns records) cells sizings.Least result)) }
     // So by a configuration that the settings tell, and that holds for each cell what they decide.
     ensures settings { UnlessMemory result ((config : SpannedConfig)
         × IsConfiguredBy settings.items config
         × TellsRows R.tells records (λ cells.
-        IsLaidOutLeast (spanned_grid config) (line_measure R.Iter.Cell.text)
-        (R.columns records) cells result)) }
+        IsLaidOut (spanned_grid config) (line_measure R.Iter.Cell.text)
+        (R.columns records) cells sizings.Least result)) }
 {
     let config = configuration(alloc, settings)?;
     laid_out(LeastGridDimension::new(alloc), records, &config)

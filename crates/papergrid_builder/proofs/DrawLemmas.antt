@@ -7,16 +7,18 @@ use Rattle.papergrid_config.specs.Grids.{spanned_grid}
 use Rattle.papergrid_config.specs.declared.setting.Setting.{Setting}
 use Rattle.papergrid_config.specs.declared.spanned.SpannedConfig.{SpannedConfig}
 use Rattle.papergrid_walk.specs.Cells.{problem_of}
-use Rattle.papergrid_layout.specs.Answers.{AreBothSizes, AreSizesBy, AreTooLargeBy, HoldAlong, IsBothRefused, IsBothRefusedWhere, UnlessMemoryError}
+use Rattle.papergrid_layout.specs.Answers.{AreBothSizes, HoldAlong, IsBothRefused, UnlessMemoryError}
+use Rattle.papergrid_tracks.specs.Sizings.{AreSizesBy, AreTooLargeBy}
 use Rattle.papergrid_layout.specs.Certificates.{IsCertifiedBy, IsSolutionBy, solution_of}
 use Rattle.papergrid_layout.specs.Tables.{IsTableOf, TableParts, view_of}
-use Rattle.papergrid_layout.specs.declared.sizing.Sizing.{Sizing}
-use Rattle.papergrid_layout.specs.declared.sizing.Sizing.TheVariants.{ByShares, Least}
+use Rattle.papergrid_tracks.specs.declared.sizing.Sizing.{Sizing}
+use Rattle.papergrid_tracks.specs.declared.sizing.Sizing.TheVariants.{ByShares, Least}
 use Rattle.papergrid_layout.specs.Places.{sized_table, total_along}
 use Rattle.papergrid_layout.proofs.PlaceLaws.{totals}
 use Rattle.papergrid_maps.specs.Grids.{Grid}
 use Rattle.papergrid_tracks.specs.Problem.{Problem}
 use Rattle.papergrid_layout.proofs.Told.{problem_told}
+use Rattle.papergrid_layout.proofs.TotalLemmas.{room-of}
 use Rattle.papergrid_text.proofs.RowSteps.{told_by}
 use Rattle.papergrid_tracks.specs.declared.error.LayoutError.{LayoutError}
 use Rattle.papergrid_tracks.specs.declared.error.LayoutError.TheVariants as layout_errors
@@ -54,7 +56,7 @@ module _ {A : Type 0} (view : A → List ℕ) (config : SpannedConfig) (sizing :
   }
 
   -- why there are none
-  pub no-sizes : (e : LayoutError) → IsBothRefusedWhere (spanned_grid config) (λ x. text_measure (view x)) columns cells (AreTooLargeBy sizing) e →
+  pub no-sizes : (e : LayoutError) → IsBothRefused (spanned_grid config) (λ x. text_measure (view x)) columns cells sizing e →
       IsBothRefused (spanned_grid config) text_measure (longest rows) rows sizing e
   no-sizes e are = subst (λ n. IsBothRefused (spanned_grid config) text_measure n rows sizing e) counted (no-sizes-seen view config columns cells rows same sizing e are)
 
@@ -115,8 +117,7 @@ module _ (config : SpannedConfig) (rows : List (List (List ℕ))) (sizing : Sizi
 
 -- there are as many sizes as tracks
 counted : (sizing : Sizing) (problem : Problem) (sizes : List ℕ) → AreSizesBy sizing problem sizes → length sizes ≡ problem.count
-counted ByShares problem sizes are = are.fits.one_each
-counted Least problem sizes are = are.least.fits.one_each
+counted sizing problem sizes are = (room-of sizing problem sizes are).fits.one_each
 
 -- the totals that are found are those of the table with the sizes that are found
 module _ (rows : List (List (List ℕ))) (found : FoundTable) where

@@ -10,7 +10,7 @@ use Rattle.papergrid_layout.specs.Certificates.{AreSolutionsBy}
 use Rattle.papergrid_layout.specs.Places.{HasPlace, IsFirstOver, Overflows, total_along}
 use Rattle.papergrid_layout.specs.Tables.{TableParts, view_of}
 use Rattle.papergrid_layout.specs.declared.rect.Place.{Place}
-use Rattle.papergrid_layout.specs.declared.sizing.Sizing.{Sizing}
+use Rattle.papergrid_tracks.specs.declared.sizing.Sizing.{Sizing}
 use Rattle.papergrid_tracks.specs.declared.error.LayoutError.{LayoutError}
 use Rattle.papergrid_tracks.specs.declared.error.LayoutError.TheVariants as layout_errors
 use Rattle.papergrid_walk.specs.Measures.{text_measure}

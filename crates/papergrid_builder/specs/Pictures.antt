@@ -1,7 +1,7 @@
 -- The picture of a table.
 use Rattle.std.specs.Prelude.{⊤, ℕ, List}
 use Rattle.papergrid_config.specs.declared.setting.Setting.{Setting}
-use Rattle.papergrid_layout.specs.declared.sizing.Sizing.{Sizing}
+use Rattle.papergrid_tracks.specs.declared.sizing.Sizing.{Sizing}
 use Rattle.papergrid_draw.specs.Drawings.{Drawing}
 use Rattle.papergrid_draw.specs.declared.error.DrawError.TheVariants as draw_errors
 use Rattle.papergrid_draw.specs.Pictures.{IsDrawingBy, IsPictureFault}

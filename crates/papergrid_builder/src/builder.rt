@@ -65,7 +65,7 @@ impl Builder {
     ghost use Rattle.papergrid_config.specs.declared.setting.Setting.{Setting};
     ghost use Rattle.papergrid_draw.specs.Drawings.{Drawing};
     ghost use Rattle.papergrid_draw.specs.Lined.{lined};
-    ghost use Rattle.papergrid_layout.specs.declared.sizing.Sizing.{Sizing};
+    ghost use Rattle.papergrid_tracks.specs.declared.sizing.Sizing.{Sizing};
     ghost use Rattle.papergrid_builder.specs.Calls.{AreNoRows, GainsCell, GainsRows, GainsSetting, IsNoCell, IsNoSetting, IsNotTold, IsOutOfMemory};
     ghost use Rattle.papergrid_builder.specs.Layouts.{IsCellAnswer, IsFoundTable, IsNoFoundTable, IsPlaceAnswer, certificate_along, sizes_along, totals_of};
     ghost use Rattle.papergrid_builder.specs.Pictures.{IsDrawingOf, IsNotDrawn};

@@ -5,8 +5,9 @@ use Rattle.papergrid_tracks.specs.declared.error.LayoutError.{LayoutError}
 use Rattle.papergrid_tracks.specs.declared.error.LayoutError.TheVariants.{OutOfTable, TooLarge, Memory}
 use Rattle.papergrid_tracks.specs.Fits.{Fits}
 use Rattle.papergrid_tracks.specs.Problem.{Problem}
-use Rattle.papergrid_layout.specs.Answers.{Answers, IsRefused, IsTotal, UnlessMemory}
-use Rattle.papergrid_layout.specs.declared.sizing.Sizing.TheVariants.{ByShares}
+use Rattle.papergrid_layout.specs.Answers.{UnlessMemory}
+use Rattle.papergrid_tracks.specs.Sizings.{Answers, IsRefused, IsTotal}
+use Rattle.papergrid_tracks.specs.declared.sizing.Sizing.TheVariants.{ByShares}
 
 module _ {V C : Type 0} (Tells : List (List C) → Type 0) (Said Known : List (List C) → Result V LayoutError → Type 0)
     (each : (cells : List (List C)) (result : Result V LayoutError) → Said cells result → Known cells result) where

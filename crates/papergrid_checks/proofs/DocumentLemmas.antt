@@ -10,7 +10,7 @@ use Rattle.papergrid_draw.specs.Sinks.{IsUndrawn}
 use Rattle.papergrid_draw.proofs.SinkLemmas.{undrawn-beginning}
 use Rattle.papergrid_draw.specs.declared.error.DrawError.{DrawError}
 use Rattle.papergrid_draw.specs.Lined.{lined}
-use Rattle.papergrid_layout.specs.declared.sizing.Sizing.TheVariants.{ByShares}
+use Rattle.papergrid_tracks.specs.declared.sizing.Sizing.TheVariants.{ByShares}
 use Rattle.papergrid_json.specs.Documents.{AreInRange}
 use Rattle.papergrid_json.specs.Pictures.{IsDocumentDrawing, IsDocumentFault}
 use Rattle.papergrid_json.specs.declared.document.Document.{Document}

@@ -7,19 +7,21 @@ use Rattle.papergrid_values.specs.declared.direction.Direction.{Direction}
 use Rattle.papergrid_values.specs.declared.direction.Direction.TheVariants.{Columns, Rows}
 use Rattle.papergrid_tracks.specs.declared.error.LayoutError.{LayoutError}
 use Rattle.papergrid_tracks.specs.declared.error.LayoutError.TheVariants.{OutOfTable, TooLarge, Memory}
-use Rattle.papergrid_tracks.specs.Answers.{AnswersWhere, IsRefusedWhere, AreSizesTooLarge}
+use Rattle.papergrid_tracks.specs.Sizings.{Answers, AreTooLargeBy, IsRefused}
 use Rattle.papergrid_tracks.specs.Problem.{Problem}
 use Rattle.papergrid_tracks.specs.Ranges.{place_of}
 use Rattle.papergrid_config.specs.Grids.{spanned_grid}
 use Rattle.papergrid_config.specs.declared.spanned.SpannedConfig.{SpannedConfig}
-use Rattle.papergrid_tracks.specs.LeastAnswers.{AreLeastSizes, AreLeastTooLarge}
+use Rattle.papergrid_tracks.specs.LeastAnswers.{AreLeastSizes}
 use Rattle.papergrid_walk.specs.Cells.{demand_by, demands_of, problem_of, visible_cells}
 use Rattle.papergrid_maps.specs.Grids.{Grid}
-use Rattle.papergrid_layout.specs.Answers.{HoldAlong, IsBothRefusedWhere, UnlessMemory, UnlessMemoryError}
+use Rattle.papergrid_layout.specs.Answers.{HoldAlong, IsBothRefused, UnlessMemory, UnlessMemoryError}
 use Rattle.papergrid_layout.specs.Tables.{IsTableOf, TableParts}
-use Rattle.papergrid_layout.specs.declared.sizing.Sizing.TheVariants.{Least}
-use Rattle.papergrid_layout.specs.declared.iterable.IterGridDimension.{IterGridDimension}
-use Rattle.papergrid_layout.proofs.Told.{first_told, problem_told}
+use Rattle.papergrid_tracks.specs.declared.sizing.Sizing.{Sizing}
+use Rattle.papergrid_tracks.specs.declared.sizing.Sizing.TheVariants.{ByShares, Least}
+use Rattle.papergrid_layout.specs.declared.grid_dimension.GridDimension.{GridDimension}
+use Rattle.papergrid_layout.proofs.Told.{problem_told}
+use Rattle.papergrid_layout.proofs.Told as seen
 use Rattle.papergrid.specs.Layouts.{IsLaidOut}
 
 module _ {A B : Type 0} (grid : Grid) (v : A → B) (f : B → ℕ × ℕ) (columns : ℕ) (rows : List (List B)) where
@@ -29,30 +31,21 @@ module _ {A B : Type 0} (grid : Grid) (v : A → B) (f : B → ℕ × ℕ) (colu
 
     -- what holds along both directions of the cells told holds of the rows
     pub both_told : {V : Type 0} (holds : Problem → V → Type 0) (across down : V) → HoldAlong grid (λ x. f (v x)) columns cells holds across down → HoldAlong grid f columns rows holds across down
-    both_told holds across down both = record {
-      widths = subst (λ problem. holds problem across) (one_told Columns) both.widths;
-      heights = subst (λ problem. holds problem down) (one_told Rows) both.heights;
-    }
+    both_told holds across down both = seen.both_told grid v f cells rows same columns holds across down both
 
   -- a refusal along both directions
-  pub both_refused : (too_large : Problem → Type 0) (e : LayoutError)
-      → UnlessMemoryError e ((cells : List (List A)) × (map (map v) cells ≡ rows) × IsBothRefusedWhere grid (λ x. f (v x)) columns cells too_large e) → IsBothRefusedWhere grid f columns rows too_large e
-  both_refused too_large (OutOfTable place) is = sym (first_told grid v f is.0 rows is.1 columns) ∙ is.2
-  both_refused too_large TooLarge is = (
-    sym (first_told grid v f is.0 rows is.1 columns) ∙ is.2.0,
-    elim is.2.1 [
-      | inl wide ↦ inl (subst too_large (one_told is.0 is.1 Columns) wide)
-      | inr high ↦ inr (subst too_large (one_told is.0 is.1 Rows) high)
-    ],
-  )
-  both_refused too_large (Memory e) is = tt
+  pub both_refused : (sizing : Sizing) (e : LayoutError)
+      → UnlessMemoryError e ((cells : List (List A)) × (map (map v) cells ≡ rows) × IsBothRefused grid (λ x. f (v x)) columns cells sizing e) → IsBothRefused grid f columns rows sizing e
+  both_refused sizing (OutOfTable place) is = seen.both_refused_told grid v f is.0 rows is.1 columns sizing (OutOfTable place) is.2
+  both_refused sizing TooLarge is = seen.both_refused_told grid v f is.0 rows is.1 columns sizing TooLarge is.2
+  both_refused sizing (Memory e) is = tt
 
   -- the same, as a `?` hands it on
-  pub refused_on : {V : Type 0} (too_large : Problem → Type 0) (holds : V → Type 0) (result : Result V LayoutError) (e : LayoutError) → IsErrAnd result (λ error. error ≡ e)
-      → UnlessMemoryError e ((cells : List (List A)) × (map (map v) cells ≡ rows) × IsBothRefusedWhere grid (λ x. f (v x)) columns cells too_large e)
-      → MatchResult result holds (IsBothRefusedWhere grid f columns rows too_large)
-  refused_on too_large holds (Ok found) e is told = absurd is
-  refused_on too_large holds (Err error) e is told = subst (IsBothRefusedWhere grid f columns rows too_large) (sym is) (both_refused too_large e told)
+  pub refused_on : {V : Type 0} (sizing : Sizing) (holds : V → Type 0) (result : Result V LayoutError) (e : LayoutError) → IsErrAnd result (λ error. error ≡ e)
+      → UnlessMemoryError e ((cells : List (List A)) × (map (map v) cells ≡ rows) × IsBothRefused grid (λ x. f (v x)) columns cells sizing e)
+      → MatchResult result holds (IsBothRefused grid f columns rows sizing)
+  refused_on sizing holds (Ok found) e is told = absurd is
+  refused_on sizing holds (Err error) e is told = subst (IsBothRefused grid f columns rows sizing) (sym is) (both_refused sizing e told)
 
   -- the sizes along both directions, as a dimension hands them out
   pub sizes_told : (holds : Problem → List ℕ → Type 0) (across down wide high : List ℕ) → wide ≡ across → high ≡ down
@@ -62,25 +55,25 @@ module _ {A B : Type 0} (grid : Grid) (v : A → B) (f : B → ℕ × ℕ) (colu
       record { widths = rw widths both.widths; heights = rw heights both.heights }
 
   -- a refusal along one direction
-  pub one_refused : (too_large : Problem → Type 0) (direction : Direction) (e : LayoutError)
-      → UnlessMemoryError e ((cells : List (List A)) × (map (map v) cells ≡ rows) × IsRefusedWhere (problem_of grid (λ x. f (v x)) columns cells direction) (too_large (problem_of grid (λ x. f (v x)) columns cells direction)) e)
-      → IsRefusedWhere (problem_of grid f columns rows direction) (too_large (problem_of grid f columns rows direction)) e
-  one_refused too_large direction (OutOfTable place) is = subst (λ problem. IsRefusedWhere problem (too_large problem) (OutOfTable place)) (one_told is.0 is.1 direction) is.2
-  one_refused too_large direction TooLarge is = subst too_large (one_told is.0 is.1 direction) is.2
-  one_refused too_large direction (Memory e) is = tt
+  pub one_refused : (sizing : Sizing) (direction : Direction) (e : LayoutError)
+      → UnlessMemoryError e ((cells : List (List A)) × (map (map v) cells ≡ rows) × IsRefused sizing (problem_of grid (λ x. f (v x)) columns cells direction) e)
+      → IsRefused sizing (problem_of grid f columns rows direction) e
+  one_refused sizing direction (OutOfTable place) is = subst (λ problem. IsRefused sizing problem (OutOfTable place)) (one_told is.0 is.1 direction) is.2
+  one_refused sizing direction TooLarge is = subst (AreTooLargeBy sizing) (one_told is.0 is.1 direction) is.2
+  one_refused sizing direction (Memory e) is = tt
 
   -- an answer along one direction
-  pub answers_told : {V : Type 0} (too_large : Problem → Type 0) (holds : Problem → V → Type 0) (direction : Direction) (result : Result V LayoutError)
-      → UnlessMemory result ((cells : List (List A)) × (map (map v) cells ≡ rows) × AnswersWhere too_large holds (problem_of grid (λ x. f (v x)) columns cells direction) result)
-      → AnswersWhere too_large holds (problem_of grid f columns rows direction) result
-  answers_told too_large holds direction (Ok found) is = subst (λ problem. holds problem found) (one_told is.0 is.1 direction) is.2
-  answers_told too_large holds direction (Err e) is = one_refused too_large direction e is
+  pub answers_told : {V : Type 0} (sizing : Sizing) (holds : Problem → V → Type 0) (direction : Direction) (result : Result V LayoutError)
+      → UnlessMemory result ((cells : List (List A)) × (map (map v) cells ≡ rows) × Answers sizing holds (problem_of grid (λ x. f (v x)) columns cells direction) result)
+      → Answers sizing holds (problem_of grid f columns rows direction) result
+  answers_told sizing holds direction (Ok found) is = subst (λ problem. holds problem found) (one_told is.0 is.1 direction) is.2
+  answers_told sizing holds direction (Err e) is = one_refused sizing direction e is
 
   -- an answer with a dimension
-  pub laid_told : (result : Result IterGridDimension LayoutError)
-      → UnlessMemory result ((cells : List (List A)) × (map (map v) cells ≡ rows) × IsLaidOut grid (λ x. f (v x)) columns cells result) → IsLaidOut grid f columns rows result
-  laid_told (Ok dimension) is = both_told is.0 is.1 _ _ _ is.2
-  laid_told (Err e) is = both_refused AreSizesTooLarge e is
+  pub laid_told : {T M : Type 0} (sizing : Sizing) (result : Result (GridDimension T M) LayoutError)
+      → UnlessMemory result ((cells : List (List A)) × (map (map v) cells ≡ rows) × IsLaidOut grid (λ x. f (v x)) columns cells sizing result) → IsLaidOut grid f columns rows sizing result
+  laid_told sizing (Ok dimension) is = both_told is.0 is.1 _ _ _ is.2
+  laid_told sizing (Err e) is = both_refused sizing e is
 
 -- the table of the cells told, of least sizes, is that of the rows
 pub table_told : {A B : Type 0} (config : SpannedConfig) (v : A → B) (f : B → ℕ × ℕ) (columns : ℕ) (rows : List (List B)) (result : Result TableParts LayoutError)
@@ -88,6 +81,6 @@ pub table_told : {A B : Type 0} (config : SpannedConfig) (v : A → B) (f : B �
     → UnlessMemory result (IsTableOf config f columns rows Least result)
 table_told config v f columns rows (Ok table) is =
     (is.2.0, both_told (spanned_grid config) v f columns rows is.0 is.1 AreLeastSizes table.widths table.heights is.2.1)
-table_told config v f columns rows (Err (OutOfTable place)) is = both_refused (spanned_grid config) v f columns rows AreLeastTooLarge (OutOfTable place) is
-table_told config v f columns rows (Err TooLarge) is = both_refused (spanned_grid config) v f columns rows AreLeastTooLarge TooLarge is
+table_told config v f columns rows (Err (OutOfTable place)) is = both_refused (spanned_grid config) v f columns rows Least (OutOfTable place) is
+table_told config v f columns rows (Err TooLarge) is = both_refused (spanned_grid config) v f columns rows Least TooLarge is
 table_told config v f columns rows (Err (Memory e)) is = tt

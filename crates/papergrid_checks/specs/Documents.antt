@@ -2,7 +2,7 @@
 use Rattle.std.specs.Prelude.{◌≡◌, ℕ, List}
 use Rattle.papergrid_draw.specs.Drawings.{Drawing}
 use Rattle.papergrid_draw.specs.Lined.{lined}
-use Rattle.papergrid_layout.specs.declared.sizing.Sizing.TheVariants.{ByShares}
+use Rattle.papergrid_tracks.specs.declared.sizing.Sizing.TheVariants.{ByShares}
 use Rattle.papergrid_json.specs.Documents.{AreInRange}
 use Rattle.papergrid_json.specs.Pictures.{IsDocumentDrawing}
 use Rattle.papergrid_json.specs.declared.document.Document.{Document}

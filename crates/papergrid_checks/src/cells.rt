@@ -1,8 +1,8 @@
 //! Cells of one's own type.
 
 ghost use Rattle.std.specs.Prelude.{string_bytes};
-ghost use Rattle.papergrid_layout.specs.Answers.{IsSized};
-ghost use Rattle.papergrid_layout.specs.declared.sizing.Sizing.TheVariants as sizings;
+ghost use Rattle.papergrid_tracks.specs.Sizings.{IsSized};
+ghost use Rattle.papergrid_tracks.specs.declared.sizing.Sizing.TheVariants as sizings;
 ghost use Rattle.papergrid_values.specs.declared.direction.Direction.TheVariants.{Columns};
 ghost use Rattle.papergrid_walk.specs.Cells.{problem_of};
 ghost use Rattle.papergrid_config.specs.Grids.{spanned_grid};

@@ -2,8 +2,8 @@
 
 ghost use Rattle.std.specs.Prelude.{◌↔◌, IsTrue, MatchResult};
 ghost use Rattle.papergrid_tracks.specs.Answers.{IsAccepted};
-ghost use Rattle.papergrid_layout.specs.Answers.{IsRefused};
-ghost use Rattle.papergrid_layout.specs.declared.sizing.Sizing.TheVariants as sizings;
+ghost use Rattle.papergrid_tracks.specs.Sizings.{IsRefused};
+ghost use Rattle.papergrid_tracks.specs.declared.sizing.Sizing.TheVariants as sizings;
 ghost use Rattle.papergrid_tracks.specs.Fits.{IsLeast};
 ghost use Rattle.papergrid_tracks.specs.Ranges.{IsLaminar};
 ghost use Rattle.papergrid_values.specs.declared.direction.Direction.TheVariants.{Columns};

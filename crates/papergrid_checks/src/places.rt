@@ -5,7 +5,7 @@ ghost use Rattle.papergrid_values.specs.declared.direction.Direction.TheVariants
 ghost use Rattle.papergrid_layout.specs.Answers.{UnlessMemory};
 ghost use Rattle.papergrid_layout.specs.Places.{Covers, HasPlace, HaveAllPlaces, IsPlaced, table_by};
 ghost use Rattle.papergrid_layout.specs.Tables.{HasSizes, IsTableOf, line_position, view_of};
-ghost use Rattle.papergrid_layout.specs.declared.sizing.Sizing.TheVariants.{Least};
+ghost use Rattle.papergrid_tracks.specs.declared.sizing.Sizing.TheVariants.{Least};
 ghost use Rattle.papergrid_checks.specs.Rows.{cells_of, lent_measure};
 
 use papergrid::config::Position;

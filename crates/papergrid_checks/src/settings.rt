@@ -3,6 +3,7 @@
 ghost use Rattle.std.specs.Prelude.{◌≡◌, All, IfOk, true};
 ghost use Rattle.papergrid.specs.Layouts.{IsLaidOut};
 ghost use Rattle.papergrid_script.specs.Grids.{grid_of};
+ghost use Rattle.papergrid_tracks.specs.declared.sizing.Sizing.TheVariants.{ByShares};
 ghost use Rattle.papergrid_config.specs.Applied.{is_in_range};
 ghost use Rattle.papergrid_config.specs.History.{HasSettingHistory};
 ghost use Rattle.papergrid_maps.specs.StoredMap.{stored_value};
@@ -60,7 +61,8 @@ pub fn laid_out(
     rows: &[Vec<&str>],
 ) -> Result<IterGridDimension, LayoutError>
     requires { All (λ setting. is_in_range setting ≡ true) settings.items }
-    ensures { IsLaidOut (grid_of settings.items) lent_measure 3 (cells_of rows.now) result }
+    ensures { IsLaidOut (grid_of settings.items) lent_measure 3 (cells_of rows.now)
+        ByShares result }
 {
     layout(alloc, settings, IterRecords::new(rows, 3, None))
 }

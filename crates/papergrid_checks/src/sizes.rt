@@ -3,8 +3,9 @@
 ghost use Rattle.std.specs.Prelude.{◌≡◌, ◌+◌, ◌≤◌, All, IfOk, List, MatchResult, ℕ, length, slice_index, sum};
 ghost use Rattle.papergrid_tracks.specs.Fits.{Fits};
 ghost use Rattle.papergrid_tracks.specs.Sizes.{sizes_of};
-ghost use Rattle.papergrid_layout.specs.Answers.{Answers, AreBothSized, IsBothRefused, IsRefused, IsSized, UnlessMemory};
-ghost use Rattle.papergrid_layout.specs.declared.sizing.Sizing.TheVariants as sizings;
+ghost use Rattle.papergrid_layout.specs.Answers.{AreBothSized, IsBothRefused, UnlessMemory};
+ghost use Rattle.papergrid_tracks.specs.Sizings.{Answers, IsRefused, IsSized};
+ghost use Rattle.papergrid_tracks.specs.declared.sizing.Sizing.TheVariants as sizings;
 ghost use Rattle.papergrid_values.specs.declared.direction.Direction.TheVariants.{Columns};
 ghost use Rattle.papergrid_walk.specs.Cells.{problem_of, side, visible_cells};
 ghost use Rattle.papergrid_config.specs.Grids.{spanned_grid};

@@ -5,7 +5,7 @@ ghost use Rattle.papergrid_values.specs.declared.alignment.AlignmentHorizontal.T
 ghost use Rattle.papergrid_values.specs.declared.alignment.AlignmentVertical.TheVariants.{Top};
 ghost use Rattle.papergrid_values.specs.declared.entity.Entity.TheVariants.{Global};
 ghost use Rattle.papergrid_config.specs.declared.setting.Setting.TheVariants.{SetAlignmentVertical, SetBorders, SetPadding};
-ghost use Rattle.papergrid_layout.specs.declared.sizing.Sizing.TheVariants.{ByShares};
+ghost use Rattle.papergrid_tracks.specs.declared.sizing.Sizing.TheVariants.{ByShares};
 ghost use Rattle.papergrid_csv.specs.Requests.{IsSeparating, head_line, settings_of, span_settings};
 ghost use Rattle.papergrid_csv.specs.Rows.{held_texts};
 ghost use Rattle.papergrid_csv.specs.declared.reading.Format.TheVariants.{Csv};

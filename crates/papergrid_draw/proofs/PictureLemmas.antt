@@ -4,21 +4,19 @@ use Rattle.std.specs.Prelude.{option_and_then, slice_get, slice_index_or}
 use Rattle.std.proofs.lemmas.Option.{get_or_from_slice_get, slice_get-get_or, slice_get_cases}
 use Rattle.papergrid_values.specs.declared.position.Position.{Position}
 use Rattle.papergrid_values.specs.declared.direction.Direction.TheVariants.{Columns, Rows}
-use Rattle.papergrid_tracks.specs.Answers.{AreSizes, AreSizesTooLarge}
+use Rattle.papergrid_tracks.specs.Sizings.{AreSizesBy}
 use Rattle.papergrid_tracks.specs.Fits.{Fits}
-use Rattle.papergrid_tracks.specs.LeastAnswers.{AreLeastSizes, AreLeastTooLarge}
-use Rattle.papergrid_tracks.specs.Problem.{Problem}
 use Rattle.papergrid_tracks.specs.declared.error.LayoutError.{LayoutError}
 use Rattle.papergrid_tracks.specs.declared.error.LayoutError.TheVariants as layout_errors
 use Rattle.papergrid_config.specs.Grids.{spanned_grid}
 use Rattle.papergrid_config.specs.declared.setting.Setting.{Setting}
 use Rattle.papergrid_config.specs.declared.spanned.SpannedConfig.{SpannedConfig}
 use Rattle.papergrid_walk.specs.Cells.{problem_of}
-use Rattle.papergrid_layout.specs.Answers.{AreBothSizes, HoldAlong, IsBothRefused, IsBothRefusedWhere}
+use Rattle.papergrid_layout.specs.Answers.{AreBothSizes, IsBothRefused}
 use Rattle.papergrid_layout.specs.Laws.{RowHasCell}
-use Rattle.papergrid_layout.specs.declared.sizing.Sizing.{Sizing}
-use Rattle.papergrid_layout.specs.declared.sizing.Sizing.TheVariants.{ByShares, Least}
-use Rattle.papergrid_layout.proofs.Told.{first_told, problem_told}
+use Rattle.papergrid_tracks.specs.declared.sizing.Sizing.{Sizing}
+use Rattle.papergrid_layout.proofs.Told.{both_refused_told, both_told}
+use Rattle.papergrid_layout.proofs.TotalLemmas.{room-of}
 use Rattle.papergrid_layout.specs.Answers.{UnlessMemoryError}
 use Rattle.papergrid_layout.specs.Tables.{TableParts}
 use Rattle.papergrid_draw.specs.Contents.{lines_of}
@@ -39,36 +37,15 @@ use Rattle.papergrid_draw.proofs.SinkLemmas.{draws-none, draws-so}
 
 module _ {A : Type 0} (view : A → List ℕ) (config : SpannedConfig) (columns : ℕ) (cells : List (List A)) (texts : List (List (List ℕ)))
     (same : map (map view) cells ≡ texts) where
-  along-seen : {B : Type 0} (holds : Problem → B → Type 0) (across down : B) →
-      HoldAlong (spanned_grid config) (λ x. text_measure (view x)) columns cells holds across down → HoldAlong (spanned_grid config) text_measure columns texts holds across down
-  along-seen holds across down are = record {
-    widths = subst (λ problem. holds problem across) (problem_told (spanned_grid config) view text_measure cells texts same Columns columns) are.widths;
-    heights = subst (λ problem. holds problem down) (problem_told (spanned_grid config) view text_measure cells texts same Rows columns) are.heights;
-  }
-
   -- sizes that are chosen so
   pub sizes-seen : (sizing : Sizing) (widths heights : List ℕ) → AreBothSizes (spanned_grid config) (λ x. text_measure (view x)) columns cells sizing widths heights →
       AreBothSizes (spanned_grid config) text_measure columns texts sizing widths heights
-  sizes-seen ByShares widths heights are = along-seen AreSizes widths heights are
-  sizes-seen Least widths heights are = along-seen AreLeastSizes widths heights are
-
-  refused-seen : (too_large : Problem → Type 0) (e : LayoutError) → IsBothRefusedWhere (spanned_grid config) (λ x. text_measure (view x)) columns cells too_large e →
-      IsBothRefusedWhere (spanned_grid config) text_measure columns texts too_large e
-  refused-seen too_large (layout_errors.OutOfTable p) is = sym (first_told (spanned_grid config) view text_measure cells texts same columns) ∙ is
-  refused-seen too_large layout_errors.TooLarge is = (
-    sym (first_told (spanned_grid config) view text_measure cells texts same columns) ∙ is.0,
-    elim is.1 [
-      | inl wide ↦ inl (subst too_large (problem_told (spanned_grid config) view text_measure cells texts same Columns columns) wide)
-      | inr high ↦ inr (subst too_large (problem_told (spanned_grid config) view text_measure cells texts same Rows columns) high)
-    ],
-  )
-  refused-seen too_large (layout_errors.Memory e) is = tt
+  sizes-seen sizing widths heights are = both_told (spanned_grid config) view text_measure cells texts same columns (AreSizesBy sizing) widths heights are
 
   -- why there are none
   pub no-sizes-seen : (sizing : Sizing) (e : LayoutError) → IsBothRefused (spanned_grid config) (λ x. text_measure (view x)) columns cells sizing e →
       IsBothRefused (spanned_grid config) text_measure columns texts sizing e
-  no-sizes-seen ByShares e is = refused-seen AreSizesTooLarge e is
-  no-sizes-seen Least e is = refused-seen AreLeastTooLarge e is
+  no-sizes-seen sizing e is = both_refused_told (spanned_grid config) view text_measure cells texts same columns sizing e is
 
 -- the lines at a position are those of the text that the rows have there
 pub lines-of-rows : (texts : List (List (List ℕ))) (p : Position) → AreLinesAt (λ text. text) texts p (lines_at text_lines texts p)
@@ -105,17 +82,11 @@ drawing-with texts parts config columns sizing lent held same_config same_rows s
   is = λ i. texts_drawing (same_config i) (map texts (same_rows i)) parts.widths parts.heights;
 }
 
--- sizes that are chosen so have room
-fits-by : (config : SpannedConfig) (columns : ℕ) (texts : List (List (List ℕ))) (sizing : Sizing) (widths heights : List ℕ) →
-    AreBothSizes (spanned_grid config) text_measure columns texts sizing widths heights → Fits (problem_of (spanned_grid config) text_measure columns texts Columns) widths
-fits-by config columns texts ByShares widths heights are = are.widths.fits
-fits-by config columns texts Least widths heights are = are.widths.least.fits
-
 -- so each visible cell has room in a drawing with them, whatever the colours are
 pub room-in : (config : SpannedConfig) (columns : ℕ) (texts : List (List (List ℕ))) (sizing : Sizing) (widths heights : List ℕ) (color : Position → Option (List ℕ × List ℕ)) →
     AreBothSizes (spanned_grid config) text_measure columns texts sizing widths heights → AllHaveRoom (record (texts_drawing config texts widths heights) { color = color })
 room-in config columns texts sizing widths heights color sized =
-    let fits = fits-by config columns texts sizing widths heights sized in
+    let fits = (room-of sizing (problem_of (spanned_grid config) text_measure columns texts Columns) widths sized.widths).fits in
     let counted = subst (λ n. Fits (problem_of (spanned_grid config) text_measure n texts Columns) widths) (sym fits.one_each) fits in
     texts-leave-room (record (texts_drawing config texts widths heights) { color = color }) (λ text. text) texts widths refl counted (λ p cell. lines-of-rows texts p)
 

@@ -6,7 +6,7 @@ use Rattle.papergrid_values.specs.MapKeys.{position_cmp}
 use Rattle.papergrid_config.specs.declared.spanned.SpannedConfig.{SpannedConfig}
 use Rattle.papergrid_layout.specs.Answers.{AreBothSizes, IsBothRefused, UnlessMemory, UnlessMemoryError}
 use Rattle.papergrid_layout.specs.Tables.{IsTable, IsTableOf, IsTotalTooLarge, TableParts, view_of}
-use Rattle.papergrid_layout.specs.declared.sizing.Sizing.{Sizing}
+use Rattle.papergrid_tracks.specs.declared.sizing.Sizing.{Sizing}
 use Rattle.papergrid_tracks.specs.declared.error.LayoutError.{LayoutError}
 use Rattle.papergrid_tracks.specs.declared.error.LayoutError.TheVariants as layout_errors
 use Rattle.papergrid_draw.specs.Drawings.{Drawing}

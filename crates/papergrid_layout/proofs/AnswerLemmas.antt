@@ -6,12 +6,12 @@ use Rattle.papergrid_values.specs.declared.direction.Direction.{Direction}
 use Rattle.papergrid_values.specs.declared.direction.Direction.TheVariants.{Columns, Rows}
 use Rattle.papergrid_tracks.specs.declared.error.LayoutError.{LayoutError}
 use Rattle.papergrid_tracks.specs.declared.error.LayoutError.TheVariants.{OutOfTable, TooLarge, Memory}
-use Rattle.papergrid_tracks.specs.Answers.{IsRefusedWhere}
-use Rattle.papergrid_tracks.specs.Problem.{Problem}
+use Rattle.papergrid_tracks.specs.Sizings.{IsRefused}
+use Rattle.papergrid_tracks.specs.declared.sizing.Sizing.{Sizing}
 use Rattle.papergrid_tracks.specs.Ranges.{first_out}
 use Rattle.papergrid_walk.specs.Cells.{problem_of}
 use Rattle.papergrid_maps.specs.Grids.{Grid}
-use Rattle.papergrid_layout.specs.Answers.{IsBothRefusedWhere, UnlessMemory, UnlessMemoryError, first_out_of_table}
+use Rattle.papergrid_layout.specs.Answers.{IsBothRefused, UnlessMemory, UnlessMemoryError, first_out_of_table}
 
 -- what holds anyway holds unless an allocation failed
 pub unless_memory_error : (e : LayoutError) (P : Type 0) → P → UnlessMemoryError e P
@@ -26,12 +26,12 @@ unless (Err e) P p = unless_memory_error e P p
 some_is_not_none : {A : Type 0} (x : A) (r : Option A) → r ≡ Some x → r ≡ None → ⊥
 some_is_not_none x r e n = false≢true (ap is_some (sym n ∙ e))
 
-module _ {C : Type 0} (grid : Grid) (measure : C → ℕ × ℕ) (columns : ℕ) (cells : List (List C)) (too_large : Problem → Type 0) where
+module _ {C : Type 0} (grid : Grid) (measure : C → ℕ × ℕ) (columns : ℕ) (cells : List (List C)) (sizing : Sizing) where
   -- where no cell overflows the table along either direction, one direction's refusal is that of both
   pub refused_along : (direction : Direction) → first_out_of_table grid measure columns cells ≡ None →
       first_out (problem_of grid measure columns cells direction).count (problem_of grid measure columns cells direction).demands ≡ None →
-      (e : LayoutError) → IsRefusedWhere (problem_of grid measure columns cells direction) (too_large (problem_of grid measure columns cells direction)) e →
-      IsBothRefusedWhere grid measure columns cells too_large e
+      (e : LayoutError) → IsRefused sizing (problem_of grid measure columns cells direction) e →
+      IsBothRefused grid measure columns cells sizing e
   refused_along direction none inside (OutOfTable p) out =
       absurd (some_is_not_none p (first_out (problem_of grid measure columns cells direction).count (problem_of grid measure columns cells direction).demands) out inside)
   refused_along Columns none inside TooLarge large = (none, inl large)

@@ -10,7 +10,7 @@ use Rattle.papergrid_config.specs.Grids.{spanned_grid}
 use Rattle.papergrid_layout.specs.Answers.{AreBothSizes, UnlessMemory}
 use Rattle.papergrid_layout.specs.Places.{sized_table, total_along}
 use Rattle.papergrid_layout.specs.Tables.{IsTable, IsTableOf, IsTotalTooLarge, TableParts, view_of}
-use Rattle.papergrid_layout.specs.declared.sizing.Sizing.{Sizing}
+use Rattle.papergrid_tracks.specs.declared.sizing.Sizing.{Sizing}
 use Rattle.papergrid_layout.proofs.PlaceLaws.{both-fit, sizes-have-room}
 
 module _ {C : Type 0} (sizing : Sizing) (config : SpannedConfig) (measure : C → ℕ × ℕ) (columns : ℕ) (cells : List (List C)) (widths heights : List ℕ) where

@@ -11,22 +11,22 @@ use Rattle.papergrid_values.specs.declared.direction.Direction.{Direction}
 use Rattle.papergrid_values.specs.declared.direction.Direction.TheVariants.{Columns, Rows}
 use Rattle.papergrid_values.specs.Positions.{along}
 use Rattle.papergrid_tracks.specs.declared.demand.Demand.{Demand}
-use Rattle.papergrid_tracks.specs.Answers.{AreSizes, IsTotalBy}
+use Rattle.papergrid_tracks.specs.Sizings.{IsTotal, AreSizesBy}
 use Rattle.papergrid_tracks.specs.Fits.{HasRoom, range_sum}
 use Rattle.papergrid_tracks.specs.Problem.{Problem, total_of}
 use Rattle.papergrid_tracks.specs.Ranges.{end_of, first_out, inner_lines, place_of}
 use Rattle.papergrid_tracks.proofs.OutLemmas.{if_none}
-use Rattle.papergrid_tracks.specs.LeastAnswers.{AreLeastSizes}
 use Rattle.papergrid_maps.proofs.HiddenLemmas.{position-same}
 use Rattle.papergrid_tracks.proofs.LeastLemmas.{exact-least}
 use Rattle.papergrid_walk.specs.Cells.{demand_by, positioned_cells, problem_of, side, visible_cells}
 use Rattle.papergrid_maps.specs.Grids.{Grid}
-use Rattle.papergrid_layout.specs.Answers.{AreBothSizes, AreSizesBy, HoldAlong, IsTotal}
-use Rattle.papergrid_layout.specs.declared.sizing.Sizing.{Sizing}
-use Rattle.papergrid_layout.specs.declared.sizing.Sizing.TheVariants.{ByShares, Least}
+use Rattle.papergrid_layout.specs.Answers.{AreBothSizes, HoldAlong}
+use Rattle.papergrid_tracks.specs.declared.sizing.Sizing.{Sizing}
+use Rattle.papergrid_tracks.specs.declared.sizing.Sizing.TheVariants.{ByShares, Least}
 use Rattle.papergrid_layout.specs.Laws.{HaveRoom}
 use Rattle.papergrid_layout.specs.Places.{DoNotMeet, HasRoomAtPlace, HaveNoneInCommon, IsInsideTable, IsPlaced, StandsOver, TableView, extent, offset, place_at, sized_table, sum_from, total, total_along}
 use Rattle.papergrid_layout.specs.declared.rect.PlaceError.TheVariants.{TooLarge}
+use Rattle.papergrid_layout.proofs.TotalLemmas.{room-of}
 use Rattle.papergrid_layout.proofs.PlaceSums.{extent-before}
 
 -- ---- apart
@@ -134,17 +134,17 @@ fits-told problem sizes have =
     let fits : total_of problem sizes < 2 ^ 64 = have.total in
     omega arith
 
--- the total of sizes of which this holds, where it holds of no others
-total-by : (problem : Problem) (holds : List ℕ → Type 0) (sizes : List ℕ) → holds sizes → ((other : List ℕ) → holds other → other ≡ sizes) → length sizes ≡ problem.count →
-    (answer : ℕ) → IsTotalBy problem holds answer ↔ (answer ≡ total (slice_index sizes) problem.line problem.count)
-total-by problem holds sizes are only many answer = (
-  λ is. is.adds_up ∙ ap (total_of problem) (only is.sizes is.are_sizes) ∙ sym (total-told problem sizes many),
-  λ e. record { sizes = sizes; are_sizes = are; adds_up = e ∙ total-told problem sizes many },
-)
+-- the sizes are chosen so, and no others
+only-sizes : (sizing : Sizing) (problem : Problem) (sizes other : List ℕ) → AreSizesBy sizing problem sizes → AreSizesBy sizing problem other → other ≡ sizes
+only-sizes ByShares problem sizes other are is = is.exact ∙ sym are.exact
+only-sizes Least problem sizes other are is = exact-least problem other is ∙ sym (exact-least problem sizes are)
 
 total-sizes : (sizing : Sizing) (problem : Problem) (sizes : List ℕ) → AreSizesBy sizing problem sizes → (answer : ℕ) → IsTotal sizing problem answer ↔ (answer ≡ total (slice_index sizes) problem.line problem.count)
-total-sizes ByShares problem sizes are = total-by problem (AreSizes problem) sizes are (λ other is. is.exact ∙ sym are.exact) are.fits.one_each
-total-sizes Least problem sizes are = total-by problem (AreLeastSizes problem) sizes are (λ other is. exact-least problem other is ∙ sym (exact-least problem sizes are)) are.least.fits.one_each
+total-sizes sizing problem sizes are answer =
+    let many = (room-of sizing problem sizes are).fits.one_each in (
+      λ is. is.adds_up ∙ ap (total_of problem) (only-sizes sizing problem sizes is.sizes are is.are_sizes) ∙ sym (total-told problem sizes many),
+      λ e. record { sizes = sizes; are_sizes = are; adds_up = e ∙ total-told problem sizes many },
+    )
 
 -- ---- room
 
@@ -155,11 +155,6 @@ extent-room line sizes d le room =
     let told : range_sum sizes d ≡ sum_from (slice_index sizes) d.start d.span = sum_from-list sizes d.start d.span le in
     let minimum : d.minimum ≤ range_sum sizes d + inner_lines line d = room in
     omega arith
-
--- sizes that are chosen so have room
-room-of : (sizing : Sizing) (problem : Problem) (sizes : List ℕ) → AreSizesBy sizing problem sizes → HaveRoom problem sizes
-room-of ByShares problem sizes are = record { none_out = are.none_out; fits = are.fits; total = are.total }
-room-of Least problem sizes are = record { none_out = are.none_out; fits = are.least.fits; total = are.total }
 
 module _ {C : Type 0} (sizing : Sizing) (grid : Grid) (measure : C → ℕ × ℕ) (columns : ℕ) (cells : List (List C)) (widths heights : List ℕ) where
   pub sizes-have-room : AreBothSizes grid measure columns cells sizing widths heights → HoldAlong grid measure columns cells HaveRoom widths heights

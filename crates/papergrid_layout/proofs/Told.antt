@@ -1,5 +1,5 @@
 -- What a caller that knows its rows reads of an answer: the cells told are seen through a view, as lent cells are.
-use Rattle.std.proofs.Common.{◌≡◌, ◌∙◌, ℕ, ◌+◌, ◌||◌, true, List, [], ◌∷◌, ◌++◌, length, map, nat_lt, refl, ap, sym, inl, inr}
+use Rattle.std.proofs.Common.{◌≡◌, ◌∙◌, ℕ, ◌+◌, ◌||◌, true, List, [], ◌∷◌, ◌++◌, length, map, nat_lt, refl, ap, subst, sym, inl, inr}
 use Rattle.std.specs.Prelude.{None, Option, Some, find}
 use Rattle.std.proofs.lemmas.Bool.{cases_Bool}
 use Rattle.std.proofs.lemmas.List.{length-map}
@@ -13,9 +13,13 @@ use Rattle.papergrid_tracks.specs.Ranges.{place_of}
 use Rattle.papergrid_walk.specs.Cells.{demand_by, demands_by, count_along, demands_of, placed_from, placed_row, problem_of, visible_cells}
 use Rattle.papergrid_maps.specs.Grids.{Grid}
 use Rattle.papergrid_walk.specs.ForProofs.Visits.{demands_by-append}
-use Rattle.papergrid_layout.specs.Answers.{first_out_of_table, overflows}
-use Rattle.papergrid_layout.specs.Certificates.{IsCertificateBy, certificate_by_shares}
-use Rattle.papergrid_layout.specs.declared.sizing.Sizing.TheVariants.{ByShares}
+use Rattle.papergrid_layout.specs.Answers.{HoldAlong, IsBothRefused, first_out_of_table, overflows}
+use Rattle.papergrid_layout.specs.Certificates.{certificate_by_shares}
+use Rattle.papergrid_tracks.specs.Sizings.{AreTooLargeBy, IsCertificateBy}
+use Rattle.papergrid_tracks.specs.declared.error.LayoutError.{LayoutError}
+use Rattle.papergrid_tracks.specs.declared.error.LayoutError.TheVariants.{Memory, OutOfTable, TooLarge}
+use Rattle.papergrid_tracks.specs.declared.sizing.Sizing.{Sizing}
+use Rattle.papergrid_tracks.specs.declared.sizing.Sizing.TheVariants.{ByShares}
 
 -- the positions that a certificate gives, by the test of ranges that are nested or disjoint
 pub certificate_is : (problem : Problem) (found : Option (List Position)) → IsCertificateBy ByShares problem found → found ≡ certificate_by_shares problem
@@ -73,3 +77,24 @@ module _ {A B : Type 0} (grid : Grid) (v : A → B) (f : B → ℕ × ℕ) where
         first_by_demands grid (λ x. f (v x)) columns cells
         ∙ (λ i. find (λ p. nat_lt columns (p.col + grid.span Columns p) || nat_lt (as_many i) (p.row + grid.span Rows p)) (map place_of (wide i)))
         ∙ sym (first_by_demands grid f columns rows)
+
+    -- so along both directions the same holds of what is found
+    pub both_told : (columns : ℕ) {V : Type 0} (holds : Problem → V → Type 0) (across down : V) →
+        HoldAlong grid (λ x. f (v x)) columns cells holds across down → HoldAlong grid f columns rows holds across down
+    both_told columns holds across down both = record {
+      widths = subst (λ problem. holds problem across) (problem_told Columns columns) both.widths;
+      heights = subst (λ problem. holds problem down) (problem_told Rows columns) both.heights;
+    }
+
+    -- and nothing is found for the same reasons
+    pub both_refused_told : (columns : ℕ) (sizing : Sizing) (e : LayoutError) →
+        IsBothRefused grid (λ x. f (v x)) columns cells sizing e → IsBothRefused grid f columns rows sizing e
+    both_refused_told columns sizing (OutOfTable p) is = sym (first_told columns) ∙ is
+    both_refused_told columns sizing TooLarge is = (
+      sym (first_told columns) ∙ is.0,
+      elim is.1 [
+        | inl wide ↦ inl (subst (AreTooLargeBy sizing) (problem_told Columns columns) wide)
+        | inr high ↦ inr (subst (AreTooLargeBy sizing) (problem_told Rows columns) high)
+      ],
+    )
+    both_refused_told columns sizing (Memory e) is = tt

@@ -11,11 +11,17 @@ use Rattle.papergrid_values.specs.Lines.{all_lines}
 use Rattle.papergrid_tracks.specs.Ranges.{end_of, first_out, place_of}
 use Rattle.papergrid_tracks.proofs.LoopLemmas.{minimum_within_total}
 use Rattle.papergrid_tracks.proofs.OutLemmas.{if_none}
-use Rattle.papergrid_layout.specs.Answers.{IsTotal}
-use Rattle.papergrid_layout.specs.declared.sizing.Sizing.{Sizing}
-use Rattle.papergrid_layout.specs.declared.sizing.Sizing.TheVariants.{ByShares, Least}
+use Rattle.papergrid_tracks.specs.Sizings.{AreSizesBy, IsTotal}
+use Rattle.papergrid_tracks.specs.declared.sizing.Sizing.{Sizing}
+use Rattle.papergrid_tracks.specs.declared.sizing.Sizing.TheVariants.{ByShares, Least}
 use Rattle.papergrid_walk.specs.Cells.{demand_by, problem_of, side, visible_cells}
 use Rattle.papergrid_maps.specs.Grids.{Grid}
+use Rattle.papergrid_layout.specs.Laws.{HaveRoom}
+
+-- sizes that are chosen so have room
+pub room-of : (sizing : Sizing) (problem : Problem) (sizes : List ℕ) → AreSizesBy sizing problem sizes → HaveRoom problem sizes
+room-of ByShares problem sizes are = record { none_out = are.none_out; fits = are.fits; total = are.total }
+room-of Least problem sizes are = record { none_out = are.none_out; fits = are.least.fits; total = are.total }
 
 -- no visible cell needs more than the total with its lines
 module _ {C : Type 0} (grid : Grid) (measure : C → ℕ × ℕ) (columns : ℕ) (cells : List (List C)) (direction : Direction) where
@@ -40,7 +46,6 @@ module _ {C : Type 0} (grid : Grid) (measure : C → ℕ × ℕ) (columns : ℕ)
   fitting_covers sizes none fits = each_within sizes (total_of problem sizes) (omega arith) (visible_cells grid cells) none fits.room
 
   pub total_covers : (sizing : Sizing) (total : ℕ) → IsTotal sizing problem total → All (MinimumsAtMost total) (visible_cells grid cells)
-  total_covers ByShares total is =
-      subst (λ n. All (MinimumsAtMost n) (visible_cells grid cells)) (sym is.adds_up) (fitting_covers is.sizes is.are_sizes.none_out is.are_sizes.fits)
-  total_covers Least total is =
-      subst (λ n. All (MinimumsAtMost n) (visible_cells grid cells)) (sym is.adds_up) (fitting_covers is.sizes is.are_sizes.none_out is.are_sizes.least.fits)
+  total_covers sizing total is =
+      let room = room-of sizing problem is.sizes is.are_sizes in
+      subst (λ n. All (MinimumsAtMost n) (visible_cells grid cells)) (sym is.adds_up) (fitting_covers is.sizes room.none_out room.fits)

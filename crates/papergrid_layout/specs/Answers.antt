@@ -5,13 +5,11 @@ use Rattle.papergrid_values.specs.declared.position.Position.{Position}
 use Rattle.papergrid_values.specs.declared.direction.Direction.TheVariants.{Columns, Rows}
 use Rattle.papergrid_tracks.specs.declared.error.LayoutError.{LayoutError}
 use Rattle.papergrid_tracks.specs.declared.error.LayoutError.TheVariants.{OutOfTable, TooLarge, Memory}
-use Rattle.papergrid_tracks.specs.Answers.{AnswersWhere, AreSizes, AreSizesTooLarge, IsRefusedWhere, IsTotalBy}
+use Rattle.papergrid_tracks.specs.Sizings.{AreSizesBy, AreTooLargeBy}
 use Rattle.papergrid_tracks.specs.Problem.{Problem}
-use Rattle.papergrid_tracks.specs.LeastAnswers.{AreLeastSizes, AreLeastTooLarge}
 use Rattle.papergrid_walk.specs.Cells.{problem_of, visible_cells}
 use Rattle.papergrid_maps.specs.Grids.{Grid}
-use Rattle.papergrid_layout.specs.declared.sizing.Sizing.{Sizing}
-use Rattle.papergrid_layout.specs.declared.sizing.Sizing.TheVariants.{ByShares, Least}
+use Rattle.papergrid_tracks.specs.declared.sizing.Sizing.{Sizing}
 
 -- P, unless it is out of memory
 abbrev pub UnlessMemoryError : LayoutError → Type 0 → Type 0
@@ -23,32 +21,6 @@ UnlessMemoryError (Memory e) P = ⊤
 abbrev pub UnlessMemory : {A : Type 0} → Result A LayoutError → Type 0 → Type 0
 UnlessMemory (Ok x) P = P
 UnlessMemory (Err e) P = UnlessMemoryError e P
-
--- exactly the sizes by shares, or the least sizes, and what holds of them
-abbrev pub AreSizesBy : Sizing → Problem → List ℕ → Type 0
-AreSizesBy ByShares = AreSizes
-AreSizesBy Least = AreLeastSizes
-
--- by shares the sizes are too large along a direction; of least sizes, so is every list that fits
-abbrev pub AreTooLargeBy : Sizing → Problem → Type 0
-AreTooLargeBy ByShares = AreSizesTooLarge
-AreTooLargeBy Least = AreLeastTooLarge
-
--- what is asked for of a problem whose sizes are chosen so, or why there is none
-abbrev pub Answers : {A : Type 0} → Sizing → (Problem → A → Type 0) → Problem → Result A LayoutError → Type 0
-Answers sizing holds problem result = AnswersWhere (AreTooLargeBy sizing) holds problem result
-
--- the sizes, or why there are none
-abbrev pub IsSized : {Z : Type 0} → Sizing → Problem → Result (Vec ℕ Z) LayoutError → Type 0
-IsSized {Z} sizing problem result = Answers sizing (λ p (sizes : Vec ℕ Z). AreSizesBy sizing p sizes.items) problem result
-
--- their sum, with all lines
-abbrev pub IsTotal : Sizing → Problem → ℕ → Type 0
-IsTotal sizing problem total = IsTotalBy problem (AreSizesBy sizing problem) total
-
--- why there are none
-abbrev pub IsRefused : Sizing → Problem → LayoutError → Type 0
-IsRefused sizing problem e = IsRefusedWhere problem (AreTooLargeBy sizing problem) e
 
 module _ {C : Type 0} (grid : Grid) (measure : C → ℕ × ℕ) (columns : ℕ) (cells : List (List C)) where
   -- the cell at a position overflows the table, along columns or along rows
@@ -68,22 +40,18 @@ module _ {C : Type 0} (grid : Grid) (measure : C → ℕ × ℕ) (columns : ℕ)
   abbrev pub AreBothSizes : Sizing → List ℕ → List ℕ → Type 0
   AreBothSizes sizing wide high = HoldAlong (AreSizesBy sizing) wide high
 
-  -- out of the table by the first cell that overflows it, else too large along one direction, of which this is known.
-  -- An allocation may fail in place of any answer
-  abbrev pub IsBothRefusedWhere : (Problem → Type 0) → LayoutError → Type 0
-  IsBothRefusedWhere too_large (OutOfTable p) = first_out_of_table ≡ Some p
-  IsBothRefusedWhere too_large TooLarge = (first_out_of_table ≡ None)
-      × (too_large (problem_of grid measure columns cells Columns) ⊎ too_large (problem_of grid measure columns cells Rows))
-  IsBothRefusedWhere too_large (Memory e) = ⊤
-
-  -- the same, where sizes are chosen so
+  -- out of the table by the first cell that overflows it, else too large along one direction. An allocation may fail in
+  -- place of any answer
   abbrev pub IsBothRefused : Sizing → LayoutError → Type 0
-  IsBothRefused sizing e = IsBothRefusedWhere (AreTooLargeBy sizing) e
+  IsBothRefused sizing (OutOfTable p) = first_out_of_table ≡ Some p
+  IsBothRefused sizing TooLarge = (first_out_of_table ≡ None) × (AreTooLargeBy sizing (problem_of grid measure columns cells Columns)
+      ⊎ AreTooLargeBy sizing (problem_of grid measure columns cells Rows))
+  IsBothRefused sizing (Memory e) = ⊤
 
   -- what is found along both directions, or why there is none
-  abbrev pub AnswersBothWhere : {A : Type 0} → (Problem → Type 0) → (Problem → A → Type 0) → Result (PerDirection A) LayoutError → Type 0
-  AnswersBothWhere too_large holds (Ok found) = HoldAlong holds found.columns found.rows
-  AnswersBothWhere too_large holds (Err e) = IsBothRefusedWhere too_large e
+  abbrev pub AnswersBoth : {A : Type 0} → Sizing → (Problem → A → Type 0) → Result (PerDirection A) LayoutError → Type 0
+  AnswersBoth sizing holds (Ok found) = HoldAlong holds found.columns found.rows
+  AnswersBoth sizing holds (Err e) = IsBothRefused sizing e
 
   -- the widths and the heights, or why there are none
   abbrev pub AreBothSized : {Z : Type 0} → Sizing → Result (Vec ℕ Z × Vec ℕ Z) LayoutError → Type 0

@@ -1,11 +1,10 @@
 -- What certificates and checkers say of the rows told.
-use Rattle.std.specs.Prelude.{◌≡◌, ◌↔◌, ℕ, Bool, IsTrue, if◌then◌else◌, List, map, Option, Some, None, option_map, Result, Vec}
-use Rattle.std.specs.declared.alloc.Global.{Global}
+use Rattle.std.specs.Prelude.{◌≡◌, ◌↔◌, ℕ, Bool, IsTrue, if◌then◌else◌, List, map, Option, Some, None, Result, Vec}
 use Rattle.papergrid_values.specs.declared.position.Position.{Position}
 use Rattle.papergrid_values.specs.declared.per_direction.PerDirection.{PerDirection}
 use Rattle.papergrid_tracks.specs.declared.error.LayoutError.{LayoutError}
 use Rattle.papergrid_tracks.specs.declared.solution.Solved.{Solved}
-use Rattle.papergrid_tracks.specs.Answers.{AreCertifying, IsAccepted, NoneCertify}
+use Rattle.papergrid_tracks.specs.Answers.{IsAccepted}
 use Rattle.papergrid_tracks.specs.Certificates.{certificate_cells_of}
 use Rattle.papergrid_tracks.specs.Fits.{IsLeast}
 use Rattle.papergrid_tracks.specs.Laminar.{is_laminar}
@@ -13,9 +12,10 @@ use Rattle.papergrid_tracks.specs.Problem.{Problem, total_of}
 use Rattle.papergrid_tracks.specs.Ranges.{place_of}
 use Rattle.papergrid_tracks.specs.LeastAnswers.{AreCriticalPath}
 use Rattle.papergrid_maps.specs.Grids.{Grid}
-use Rattle.papergrid_layout.specs.Answers.{Answers, AreSizesBy, HoldAlong}
-use Rattle.papergrid_layout.specs.declared.sizing.Sizing.{Sizing}
-use Rattle.papergrid_layout.specs.declared.sizing.Sizing.TheVariants.{ByShares, Least}
+use Rattle.papergrid_layout.specs.Answers.{HoldAlong}
+use Rattle.papergrid_tracks.specs.Sizings.{Answers, AreSizesBy, IsCertificateBy, places_of}
+use Rattle.papergrid_tracks.specs.declared.sizing.Sizing.{Sizing}
+use Rattle.papergrid_tracks.specs.declared.sizing.Sizing.TheVariants.{Least}
 
 -- whether these sizes, with these positions of cells that certify them, are accepted; those that are, are least
 pub record IsChecked (problem : Problem) (sizes : List ℕ) (places : List Position) (answer : Bool) : Type 0 where
@@ -25,18 +25,6 @@ pub record IsChecked (problem : Problem) (sizes : List ℕ) (places : List Posit
 -- the positions of the cells that certify the sizes by shares, none where two longer ranges are neither nested nor disjoint
 abbrev pub certificate_by_shares : Problem → Option (List Position)
 certificate_by_shares problem = if is_laminar problem.demands then Some (map place_of (certificate_cells_of problem)) else None
-
--- the positions that are listed, if there are any
-abbrev pub places_of : Option (Vec Position Global) → Option (List Position)
-places_of certificate = option_map (λ places. places.items) certificate
-
--- the positions of the cells that certify that the sizes are least. By shares there are none where two longer ranges are
--- neither nested nor disjoint, and only there; least sizes always have them
-abbrev pub IsCertificateBy : Sizing → Problem → Option (List Position) → Type 0
-IsCertificateBy ByShares problem None = NoneCertify problem
-IsCertificateBy ByShares problem (Some places) = AreCertifying problem places
-IsCertificateBy Least problem None = ⊥
-IsCertificateBy Least problem (Some places) = AreCriticalPath problem places
 
 -- the positions of the cells that certify least sizes, or why there are none
 abbrev pub IsLeastCertified : {Z : Type 0} → Problem → Result (Vec Position Z) LayoutError → Type 0

@@ -4,6 +4,5 @@ pub mod Earlier
 pub mod Placing
 pub mod Points
 pub mod Rulers
-pub mod Solved
 pub mod Spanning
 pub mod Tables

@@ -12,7 +12,7 @@ use Rattle.papergrid_layout.specs.Places.{ArePlacesRefused, IsPlaced, TableView,
 use Rattle.papergrid_layout.specs.declared.rect.Place.{Place}
 use Rattle.papergrid_layout.specs.declared.rect.PlaceError.{PlaceError}
 use Rattle.papergrid_layout.specs.declared.rect.PlaceError.TheVariants.{TooLarge}
-use Rattle.papergrid_layout.specs.declared.sizing.Sizing.{Sizing}
+use Rattle.papergrid_tracks.specs.declared.sizing.Sizing.{Sizing}
 
 -- a configuration, with the width of each column and the height of each row
 pub record TableParts : Type 0 where

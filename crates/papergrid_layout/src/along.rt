@@ -1,8 +1,7 @@
 //! What is found along one direction.
 
-ghost use Rattle.std.specs.Prelude.{◌≡◌, Vec, ℕ};
-ghost use Rattle.std.specs.declared.alloc.Global.{Global};
-ghost use Rattle.papergrid_tracks.specs.Answers.{AnswersWhere, IsSolvedBy, IsTotalBy};
+ghost use Rattle.std.specs.Prelude.{◌≡◌};
+ghost use Rattle.papergrid_tracks.specs.Sizings.{Answers, Certifies, IsSized, IsSolvedBy, IsTotal};
 ghost use Rattle.papergrid_walk.specs.Cells.{count_along, problem_of};
 ghost use Rattle.papergrid_layout.specs.Answers.{UnlessMemory};
 ghost use Rattle.papergrid_text.specs.Records.{TellsRows};
@@ -65,7 +64,7 @@ where
     <<R as Records>::Iter as IntoRecords>::Cell: Drop,
     requires { R.is_lawful records }
     ensures { UnlessMemory result (TellsRows R.tells records (λ cells.
-        AnswersWhere T.too_large (IsSolvedBy T.are_sizes T.certifies certify)
+        Answers T.sizing (IsSolvedBy T.sizing (Certifies T.sizing) certify)
         (problem_of (S.grid settings.now) M.measured
         (R.columns records) cells direction) result)) }
 {
@@ -95,8 +94,7 @@ where
     M: Measure<<<R as Records>::Iter as IntoRecords>::Cell>,
     <<R as Records>::Iter as IntoRecords>::Cell: Drop,
     requires { R.is_lawful records }
-    ensures { UnlessMemory result (TellsRows R.tells records (λ cells. AnswersWhere T.too_large
-        (λ problem (sizes : Vec ℕ Global). T.are_sizes problem sizes.items)
+    ensures { UnlessMemory result (TellsRows R.tells records (λ cells. IsSized T.sizing
         (problem_of (S.grid settings.now) M.measured
         (R.columns records) cells direction) result)) }
 {
@@ -119,8 +117,8 @@ where
     M: Measure<<<R as Records>::Iter as IntoRecords>::Cell>,
     <<R as Records>::Iter as IntoRecords>::Cell: Drop,
     requires { R.is_lawful records }
-    ensures { UnlessMemory result (TellsRows R.tells records (λ cells. AnswersWhere T.too_large
-        (λ problem. IsTotalBy problem (T.are_sizes problem))
+    ensures { UnlessMemory result (TellsRows R.tells records (λ cells.
+        Answers T.sizing (IsTotal T.sizing)
         (problem_of (S.grid settings.now) M.measured
         (R.columns records) cells direction) result)) }
 {

@@ -1,22 +1,20 @@
 //! What is found along both directions.
 
 ghost use Rattle.std.specs.Prelude.{◌≡◌, List, length};
-ghost use Rattle.papergrid_tracks.specs.Answers.{IsSolvedBy};
+ghost use Rattle.papergrid_tracks.specs.Sizings.{Certifies, IsSolvedBy};
 ghost use Rattle.papergrid_tracks.specs.Ranges.{first_out};
 ghost use Rattle.papergrid_walk.specs.ForProofs.Pairs.{AreBothGathered};
 ghost use Rattle.papergrid_walk.specs.Measures.{line_measure};
-ghost use Rattle.papergrid_layout.specs.Answers.{AnswersBothWhere, AreTooLargeBy, UnlessMemory};
+ghost use Rattle.papergrid_layout.specs.Answers.{AnswersBoth, UnlessMemory};
 ghost use Rattle.papergrid_layout.specs.ForProofs.Earlier.{earlier, earlier_of};
-ghost use Rattle.papergrid_layout.specs.ForProofs.Solved.{IsSolvedWith};
 ghost use Rattle.papergrid_text.specs.Records.{TellsRows};
 
 use crate::along::Along;
-use crate::sizing::Sizing;
 use papergrid_maps::ConfigView;
 use papergrid_text::{IntoRecords, Records};
 use papergrid_tracks::settled::find_out;
 use papergrid_tracks::{
-    ByLeastTotal, ByShares, Demands, LayoutError, LayoutResult, Solved, Solver,
+    ByLeastTotal, ByShares, Demands, LayoutError, LayoutResult, Sizing, Solved, Solver,
 };
 use papergrid_values::{Direction, PerDirection, Position};
 use papergrid_walk::measure::ByLines;
@@ -67,8 +65,8 @@ fn conclude<T: Solver, M: Measure<C>, C, S: ConfigView>(
         × AreBothGathered (S.grid settings.now) M.measured columns cells both.now }
     ensures { (cells : List (List C)) → rows ≡ length cells →
         AreBothGathered (S.grid settings.now) M.measured columns cells both.now →
-        AnswersBothWhere (S.grid settings.now) M.measured columns cells T.too_large
-        (IsSolvedBy T.are_sizes T.certifies certify) result }
+        AnswersBoth (S.grid settings.now) M.measured columns cells T.sizing
+        (IsSolvedBy T.sizing (Certifies T.sizing) certify) result }
 {
     if let Some(position) = find_out_of_both(columns, rows, both) {
         return Err(LayoutError::OutOfTable(position));
@@ -112,9 +110,8 @@ where
     <<R as Records>::Iter as IntoRecords>::Cell: Drop,
     requires { R.is_lawful records }
     ensures { UnlessMemory result (TellsRows R.tells records (λ cells.
-        AnswersBothWhere (S.grid settings.now) M.measured
-        (R.columns records) cells T.too_large
-        (IsSolvedBy T.are_sizes T.certifies certify) result)) }
+        AnswersBoth (S.grid settings.now) M.measured (R.columns records) cells T.sizing
+        (IsSolvedBy T.sizing (Certifies T.sizing) certify) result)) }
 {
     let columns = records.count_columns();
     let (both, rows) = gather_both::<M, R, S>(alloc, records, settings)?;
@@ -145,8 +142,8 @@ where
     <<R as Records>::Iter as IntoRecords>::Cell: AsStr + Drop,
     requires { R.is_lawful records }
     ensures { UnlessMemory result (TellsRows R.tells records (λ cells.
-        AnswersBothWhere (S.grid settings.now) (line_measure R.Iter.Cell.text)
-        (R.columns records) cells (AreTooLargeBy sizing) (IsSolvedWith sizing certify) result)) }
+        AnswersBoth (S.grid settings.now) (line_measure R.Iter.Cell.text)
+        (R.columns records) cells sizing (IsSolvedBy sizing (Certifies sizing) certify) result)) }
 {
     match sizing {
         Sizing::ByShares => solve_both::<ByShares, ByLines, _, _>(

@@ -2,23 +2,22 @@
 //! checkers of such cells.
 
 ghost use Rattle.papergrid_values.specs.declared.direction.Direction.TheVariants.{Columns, Rows};
-ghost use Rattle.papergrid_tracks.specs.Answers.{IsCertificateOrNone};
-ghost use Rattle.papergrid_layout.specs.declared.sizing.Sizing.TheVariants as sizings;
+ghost use Rattle.papergrid_tracks.specs.Sizings.{Answers, Certifies};
+ghost use Rattle.papergrid_tracks.specs.declared.sizing.Sizing.TheVariants as sizings;
 ghost use Rattle.papergrid_walk.specs.Cells.{problem_of};
 ghost use Rattle.papergrid_config.specs.Grids.{spanned_grid};
 ghost use Rattle.papergrid_walk.specs.Measures.{line_measure};
-ghost use Rattle.papergrid_layout.specs.Answers.{Answers, AnswersBothWhere, AreTooLargeBy, UnlessMemory};
+ghost use Rattle.papergrid_layout.specs.Answers.{AnswersBoth, UnlessMemory};
 ghost use Rattle.papergrid_layout.specs.Certificates.{IsCertifiedBy, IsChecked, IsLeastCertified};
 ghost use Rattle.papergrid_text.specs.Records.{TellsRows};
 
 use crate::along::solve_along;
 use crate::both::solve_by;
 use crate::check::check;
-use crate::sizing::Sizing;
 use papergrid_config::SpannedConfig;
 use papergrid_maps::ConfigView;
 use papergrid_text::{IntoRecords, Records};
-use papergrid_tracks::{ByLeastTotal, ByShares, LayoutError, LayoutResult, Solved};
+use papergrid_tracks::{ByLeastTotal, ByShares, LayoutError, LayoutResult, Sizing, Solved};
 use papergrid_values::{Direction, PerDirection, Position};
 use papergrid_walk::measure::ByLines;
 use std::alloc::Global;
@@ -44,7 +43,7 @@ where
     <<R as Records>::Iter as IntoRecords>::Cell: AsStr + Drop,
     requires { R.is_lawful records }
     ensures { UnlessMemory result (TellsRows R.tells records (λ cells.
-        Answers sizings.ByShares IsCertificateOrNone
+        Answers sizings.ByShares (Certifies sizings.ByShares)
         (problem_of (spanned_grid config.now) (line_measure R.Iter.Cell.text)
         (R.columns records) cells Columns) result)) }
 {
@@ -69,7 +68,7 @@ where
     <<R as Records>::Iter as IntoRecords>::Cell: AsStr + Drop,
     requires { R.is_lawful records }
     ensures { UnlessMemory result (TellsRows R.tells records (λ cells.
-        Answers sizings.ByShares IsCertificateOrNone
+        Answers sizings.ByShares (Certifies sizings.ByShares)
         (problem_of (spanned_grid config.now) (line_measure R.Iter.Cell.text)
         (R.columns records) cells Rows) result)) }
 {
@@ -87,7 +86,7 @@ where
     <<R as Records>::Iter as IntoRecords>::Cell: AsStr + Drop,
     requires { R.is_lawful records }
     ensures { UnlessMemory result (TellsRows R.tells records (λ cells.
-        Answers sizings.ByShares IsCertificateOrNone
+        Answers sizings.ByShares (Certifies sizings.ByShares)
         (problem_of (S.grid settings.now) (line_measure R.Iter.Cell.text)
         (R.columns records) cells direction) result)) }
 {
@@ -236,8 +235,8 @@ where
     <<R as Records>::Iter as IntoRecords>::Cell: AsStr + Drop,
     requires { R.is_lawful records }
     ensures { UnlessMemory result (TellsRows R.tells records (λ cells.
-        AnswersBothWhere (spanned_grid config.now) (line_measure R.Iter.Cell.text)
-        (R.columns records) cells (AreTooLargeBy sizing) (IsCertifiedBy sizing) result)) }
+        AnswersBoth (spanned_grid config.now) (line_measure R.Iter.Cell.text)
+        (R.columns records) cells sizing (IsCertifiedBy sizing) result)) }
 {
     solve_by(alloc, records, config, sizing, true)
 }

@@ -5,9 +5,10 @@ ghost use Rattle.std.specs.Prelude.{◌≡◌, []};
 ghost use Rattle.papergrid_values.specs.declared.direction.Direction.TheVariants.{Columns, Rows};
 ghost use Rattle.papergrid_maps.specs.Grids.{compact_grid};
 ghost use Rattle.papergrid_walk.specs.Measures.{std_line_measure};
-ghost use Rattle.papergrid_layout.specs.declared.sizing.Sizing.TheVariants as sizings;
+ghost use Rattle.papergrid_tracks.specs.declared.sizing.Sizing.TheVariants as sizings;
 ghost use Rattle.papergrid_walk.specs.Cells.{problem_of};
-ghost use Rattle.papergrid_layout.specs.Answers.{AreBothSized, IsSized, UnlessMemory};
+ghost use Rattle.papergrid_layout.specs.Answers.{AreBothSized, UnlessMemory};
+ghost use Rattle.papergrid_tracks.specs.Sizings.{IsSized};
 ghost use Rattle.papergrid_text.specs.Records.{TellsRows};
 
 use crate::along::sizes_along;
@@ -150,8 +151,9 @@ where
     ghost use Rattle.papergrid_walk.specs.Measures.{std_line_measure};
     ghost use Rattle.papergrid_tracks.specs.Answers.{AreSizes};
     ghost use Rattle.papergrid_walk.specs.Cells.{problem_of};
-    ghost use Rattle.papergrid_layout.specs.Answers.{IsRefused, UnlessMemoryError};
-    ghost use Rattle.papergrid_layout.specs.declared.sizing.Sizing.TheVariants as sizings;
+    ghost use Rattle.papergrid_layout.specs.Answers.{UnlessMemoryError};
+    ghost use Rattle.papergrid_tracks.specs.Sizings.{IsRefused};
+    ghost use Rattle.papergrid_tracks.specs.declared.sizing.Sizing.TheVariants as sizings;
 
     ghost accepts = { R.is_lawful };
 

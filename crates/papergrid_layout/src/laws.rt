@@ -19,8 +19,9 @@ ghost use Rattle.papergrid_walk.specs.Cells.{demand_by, demands_of, positioned_c
 ghost use Rattle.papergrid_maps.specs.Grids.{Grid};
 ghost use Rattle.papergrid_config.specs.Grids.{spanned_grid};
 ghost use Rattle.papergrid_walk.specs.Measures.{cell_measure, line_measure};
-ghost use Rattle.papergrid_layout.specs.Answers.{AreBothSizes, HoldAlong, IsTotal, first_out_of_table};
-ghost use Rattle.papergrid_layout.specs.declared.sizing.Sizing.{Sizing};
+ghost use Rattle.papergrid_layout.specs.Answers.{AreBothSizes, HoldAlong, first_out_of_table};
+ghost use Rattle.papergrid_tracks.specs.Sizings.{IsTotal};
+ghost use Rattle.papergrid_tracks.specs.declared.sizing.Sizing.{Sizing};
 ghost use Rattle.papergrid_layout.specs.Laws.{AreReordered, AreSwapped, HaveRoom, IsCellAt, IsNewText, TellTheSame, sizes_told};
 ghost use Rattle.papergrid_layout.specs.Places.{DoNotMeet, HasRoomAtPlace, HaveNoneInCommon, IsInsideTable, IsPlaced, StandsOver, TableView, place_at, sized_table, total_along};
 ghost use Rattle.papergrid_tracks.specs.declared.error.LayoutError.{LayoutError};
@@ -28,14 +29,10 @@ ghost use Rattle.papergrid_layout.specs.declared.rect.Place.{Place};
 ghost use Rattle.papergrid_layout.specs.declared.rect.PlaceError.{PlaceError};
 ghost use Rattle.papergrid_layout.specs.declared.rect.PlaceError.TheVariants.{TooLarge};
 ghost use Rattle.papergrid_layout.specs.declared.compact.CompactGridDimension.{CompactGridDimension};
-ghost use Rattle.papergrid_layout.specs.declared.iterable.IterGridDimension.{IterGridDimension};
-ghost use Rattle.papergrid_layout.specs.declared.least.LeastGridDimension.{LeastGridDimension};
-ghost use Rattle.papergrid_layout.specs.declared.peekable.PeekableGridDimension.{PeekableGridDimension};
+ghost use Rattle.papergrid_layout.specs.declared.grid_dimension.GridDimension.{GridDimension};
 
 use crate::compact::CompactGridDimension;
-use crate::iterable::IterGridDimension;
-use crate::least::LeastGridDimension;
-use crate::peekable::PeekableGridDimension;
+use crate::grid_dimension::GridDimension;
 use crate::rect::{Place, PlaceError};
 use papergrid_text::{Cell, Text};
 use papergrid_tracks::LayoutError;
@@ -138,13 +135,9 @@ pub fn least_as_by_shares<C>()
 {}
 
 /// A clone of a dimension, of a screen rectangle or of an error equals it.
-pub fn equal_clones()
-    ensures iterable { (x y : IterGridDimension) → ⟦<IterGridDimension as Clone>⟧.is_clone x y →
-        y ≡ x }
-    ensures least { (x y : LeastGridDimension) → ⟦<LeastGridDimension as Clone>⟧.is_clone x y →
-        y ≡ x }
-    ensures peekable { (x y : PeekableGridDimension) →
-        ⟦<PeekableGridDimension as Clone>⟧.is_clone x y → y ≡ x }
+pub fn equal_clones<T: Clone, M: Clone>()
+    ensures grid { (x y : GridDimension T M) →
+        ⟦<GridDimension<T, M> as Clone>⟧.is_clone x y → y ≡ x }
     ensures compact { (x y : CompactGridDimension) →
         ⟦<CompactGridDimension as Clone>⟧.is_clone x y → y ≡ x }
     ensures place { (x y : Place) → ⟦<Place as Clone>⟧.is_clone x y → y ≡ x }
@@ -154,14 +147,9 @@ pub fn equal_clones()
 
 /// Dimensions are equal exactly where their sizes are, screen rectangles and errors exactly where
 /// they are the same.
-pub fn equal_where_same()
-    ensures iterable { (x y : IterGridDimension) →
-        (⟦<IterGridDimension as PartialEq>⟧.eq x y ≡ true)
-        ↔ ((x.widths ≡ y.widths) × (x.heights ≡ y.heights)) }
-    ensures least { (x y : LeastGridDimension) → (⟦<LeastGridDimension as PartialEq>⟧.eq x y ≡ true)
-        ↔ ((x.widths ≡ y.widths) × (x.heights ≡ y.heights)) }
-    ensures peekable { (x y : PeekableGridDimension) →
-        (⟦<PeekableGridDimension as PartialEq>⟧.eq x y ≡ true)
+pub fn equal_where_same<T: PartialEq, M: PartialEq>()
+    ensures grid { (x y : GridDimension T M) →
+        (⟦<GridDimension<T, M> as PartialEq>⟧.eq x y ≡ true)
         ↔ ((x.widths ≡ y.widths) × (x.heights ≡ y.heights)) }
     ensures compact { (x y : CompactGridDimension) →
         (⟦<CompactGridDimension as PartialEq>⟧.eq x y ≡ true) ↔ (x.widths ≡ y.widths) }

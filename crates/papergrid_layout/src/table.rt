@@ -10,6 +10,7 @@ ghost use Rattle.papergrid_tracks.specs.declared.error.LayoutError.TheVariants.{
 ghost use Rattle.papergrid_layout.specs.Answers.{UnlessMemory, UnlessMemoryError};
 ghost use Rattle.papergrid_layout.specs.Places.{EndsWithin, HaveAllPlaces, IsFirstOver, IsTrackAt, StandsOver, place_at, sized_table, total_along, track_count, track_line, track_size};
 ghost use Rattle.papergrid_layout.specs.Tables.{AreNotPlacedIn, IsPlacedIn, IsTable, IsTableOf, line_position, view_of};
+ghost use Rattle.papergrid_layout.specs.ForProofs.Placing.{AreMarks};
 ghost use Rattle.papergrid_layout.specs.ForProofs.Tables.{IsMeasuredAlong};
 ghost use Rattle.papergrid_text.specs.Records.{TellsRows};
 
@@ -20,12 +21,11 @@ use crate::dimension::Dimension;
 use crate::marks::{Marks, place_of};
 use crate::rect::{Place, PlaceError};
 use crate::ruler::Ruler;
-use crate::sizing::Sizing;
 use crate::spanning::{SpanningCell, first_covering, spanning_cells};
 use papergrid_config::SpannedConfig;
 use papergrid_maps::{Anchor, ConfigView};
 use papergrid_text::{IntoRecords, Records};
-use papergrid_tracks::LayoutError;
+use papergrid_tracks::{LayoutError, Sizing};
 use papergrid_values::{Direction, PerDirection, Position};
 use std::alloc::Global;
 use std::convert::AsStr;
@@ -263,10 +263,7 @@ impl<'a> Table<'a> {
             IsTrackAt (track_size table Columns) (track_line table Columns)
             (track_count table Columns) column result }
     {
-        if column >= self.totals.columns {
-            return None;
-        }
-        self.marks.columns.track_at(column)
+        self.track_at(Direction::Columns, column)
     }
 
     /// The row of the table that a line is in. None on a horizontal line, and outside of the table.
@@ -275,10 +272,7 @@ impl<'a> Table<'a> {
             IsTrackAt (track_size table Rows) (track_line table Rows)
             (track_count table Rows) line result }
     {
-        if line >= self.totals.rows {
-            return None;
-        }
-        self.marks.rows.track_at(line)
+        self.track_at(Direction::Rows, line)
     }
 
     /// The column of the terminal in which the vertical line before a column stands, or, at their count, that
@@ -286,10 +280,7 @@ impl<'a> Table<'a> {
     pub fn vertical_at(&self, index: usize) -> Option<usize>
         ensures { result ≡ line_position (view_of self.now) Columns index }
     {
-        if !self.has_line(Direction::Columns, index) {
-            return None;
-        }
-        Some(self.marks.columns.begin(index, self.totals.columns) - 1)
+        self.line_at(Direction::Columns, index)
     }
 
     /// The line of the table that is the horizontal line before a row, or, at their count, that after the
@@ -297,10 +288,44 @@ impl<'a> Table<'a> {
     pub fn horizontal_at(&self, index: usize) -> Option<usize>
         ensures { result ≡ line_position (view_of self.now) Rows index }
     {
-        if !self.has_line(Direction::Rows, index) {
+        self.line_at(Direction::Rows, index)
+    }
+
+    /// Where the tracks of a direction begin and end, and the total.
+    fn marks_along(&self, direction: Direction) -> (&Marks, usize)
+        ensures marks { let table = view_of self.now in
+            AreMarks (track_size table direction) (track_line table direction)
+            (track_count table direction) result.0.now }
+        ensures total { result.1 ≡ total_along (view_of self.now) direction }
+    {
+        match direction {
+            Direction::Columns => (&self.marks.columns, self.totals.columns),
+            Direction::Rows => (&self.marks.rows, self.totals.rows),
+        }
+    }
+
+    /// The track of a direction that covers a point along it.
+    fn track_at(&self, direction: Direction, point: usize) -> Option<usize>
+        ensures { let table = view_of self.now in
+            IsTrackAt (track_size table direction) (track_line table direction)
+            (track_count table direction) point result }
+    {
+        let (marks, total) = self.marks_along(direction);
+        if point >= total {
             return None;
         }
-        Some(self.marks.rows.begin(index, self.totals.rows) - 1)
+        marks.track_at(point)
+    }
+
+    /// Where the line before a track stands, or, at their count, that after the last, if it is drawn.
+    fn line_at(&self, direction: Direction, index: usize) -> Option<usize>
+        ensures { result ≡ line_position (view_of self.now) direction index }
+    {
+        if !self.has_line(direction, index) {
+            return None;
+        }
+        let (marks, total) = self.marks_along(direction);
+        Some(marks.begin(index, total) - 1)
     }
 
     /// Whether there is a line before track `index`, or, at their count, after the last.
@@ -309,10 +334,7 @@ impl<'a> Table<'a> {
             result ≡ nat_le index (track_count table direction)
             && track_line table direction index }
     {
-        let count = match direction {
-            Direction::Columns => self.sizes.columns.len(),
-            Direction::Rows => self.sizes.rows.len(),
-        };
+        let count = count_of(direction, self.sizes.columns.len(), self.sizes.rows.len());
         index <= count && self.config.has_line(direction, count, index)
     }
 }

@@ -1,8 +1,9 @@
 -- What a caller that knows its rows reads of the answer for widths.
 use Rattle.std.proofs.Common.{ℕ, List}
 use Rattle.std.specs.Prelude.{Result, Ok, Err, Vec, IfOk}
-use Rattle.papergrid_layout.specs.Answers.{IsSized, UnlessMemory}
-use Rattle.papergrid_layout.specs.declared.sizing.Sizing.TheVariants.{ByShares}
+use Rattle.papergrid_layout.specs.Answers.{UnlessMemory}
+use Rattle.papergrid_tracks.specs.Sizings.{IsSized}
+use Rattle.papergrid_tracks.specs.declared.sizing.Sizing.TheVariants.{ByShares}
 use Rattle.papergrid_tracks.specs.Answers.{AreSizes}
 use Rattle.papergrid_tracks.specs.Problem.{Problem}
 use Rattle.papergrid_tracks.specs.declared.error.LayoutError.{LayoutError}

@@ -13,12 +13,13 @@ use Rattle.papergrid_tracks.specs.Ranges.{first_out}
 use Rattle.papergrid_tracks.proofs.LeastLemmas.{exact-least, exact-critical_path}
 use Rattle.papergrid_walk.specs.Cells.{problem_of}
 use Rattle.papergrid_maps.specs.Grids.{Grid}
-use Rattle.papergrid_layout.specs.Answers.{AnswersBothWhere, AreSizesBy, AreTooLargeBy, UnlessMemory, first_out_of_table}
-use Rattle.papergrid_layout.specs.Certificates.{AreSolutionsBy, IsCertificateBy, IsCertifiedBy, IsSolutionBy, Solution, solutions_of}
+use Rattle.papergrid_layout.specs.Answers.{AnswersBoth, UnlessMemory, first_out_of_table}
+use Rattle.papergrid_tracks.specs.Sizings.{AreSizesBy, AreTooLargeBy, IsCertificateBy}
+use Rattle.papergrid_layout.specs.Certificates.{AreSolutionsBy, IsCertifiedBy, IsSolutionBy, Solution, solutions_of}
 use Rattle.papergrid_layout.proofs.Told.{first_told, problem_told, certificate_is}
 use Rattle.papergrid_layout.proofs.PairLemmas.{none_overflows}
-use Rattle.papergrid_layout.specs.declared.sizing.Sizing.{Sizing}
-use Rattle.papergrid_layout.specs.declared.sizing.Sizing.TheVariants.{ByShares, Least}
+use Rattle.papergrid_tracks.specs.declared.sizing.Sizing.{Sizing}
+use Rattle.papergrid_tracks.specs.declared.sizing.Sizing.TheVariants.{ByShares, Least}
 use Rattle.papergrid_script.specs.Estimates.{Estimate, OutOfTable, TooLarge, Sized, unless_large, unless_out, solution_by, estimate_by}
 use Rattle.papergrid_script.specs.ForProofs.Sized.{GivesEstimate}
 
@@ -135,7 +136,7 @@ module _ {A B : Type 0} (grid : Grid) (v : A → B) (f : B → ℕ × ℕ) (colu
 
 -- what is certified of the cells told, or why nothing is, is their estimate
 pub estimated : {C : Type 0} (Tells : List (List C) → Type 0) (sizing : Sizing) (grid : Grid) (measure : C → ℕ × ℕ) (columns : ℕ) (result : Result (PerDirection Solved) LayoutError)
-    → UnlessMemory result ((cells : List (List C)) × Tells cells × AnswersBothWhere grid measure columns cells (AreTooLargeBy sizing) (IsCertifiedBy sizing) result)
+    → UnlessMemory result ((cells : List (List C)) × Tells cells × AnswersBoth grid measure columns cells sizing (IsCertifiedBy sizing) result)
     → GivesEstimate result (λ answer. (cells : List (List C)) × Tells cells × (answer ≡ estimate_by sizing grid measure columns cells))
 estimated Tells sizing grid measure columns (Ok found) is =
     (is.0, is.1, sym (estimate_found grid measure columns is.0 sizing (solutions_of found) (record { widths = is.2.widths; heights = is.2.heights })))

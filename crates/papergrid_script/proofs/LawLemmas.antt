@@ -24,15 +24,15 @@ use Rattle.papergrid_maps.specs.Grids.{Grid}
 use Rattle.papergrid_layout.specs.Answers.{first_out_of_table}
 use Rattle.papergrid_layout.specs.Certificates.{certificate_by_shares}
 use Rattle.papergrid_layout.proofs.PairLemmas.{none_overflows}
-use Rattle.papergrid_layout.specs.declared.sizing.Sizing.{Sizing}
-use Rattle.papergrid_layout.specs.declared.sizing.Sizing.TheVariants.{ByShares, Least}
+use Rattle.papergrid_tracks.specs.declared.sizing.Sizing.{Sizing}
+use Rattle.papergrid_tracks.specs.declared.sizing.Sizing.TheVariants.{ByShares, Least}
 use Rattle.papergrid_script.specs.Estimates.{Estimate, OutOfTable, TooLarge, Sized, unless_large, unless_out, solution_by, estimate_by, estimate_of}
 use Rattle.papergrid_walk.specs.Measures.{text_measure}
 use Rattle.papergrid_script.specs.Grids.{grid_of}
 use Rattle.papergrid_script.specs.Scripts.{Table}
 use Rattle.papergrid_script.specs.Totals.{AreSized, IsTableTooLarge, problem_of_table}
-use Rattle.papergrid_layout.specs.Answers.{AreSizesBy, AreTooLargeBy}
-use Rattle.papergrid_layout.specs.Certificates.{IsCertificateBy, IsSolutionBy, Solution}
+use Rattle.papergrid_tracks.specs.Sizings.{AreSizesBy, AreTooLargeBy, IsCertificateBy}
+use Rattle.papergrid_layout.specs.Certificates.{IsSolutionBy, Solution}
 use Rattle.papergrid_script.proofs.EstimateLemmas.{estimate_large, estimate_out, solutions_by, total_by}
 use Rattle.papergrid_script.proofs.GridLemmas.{grid_covers, grid_draws}
 

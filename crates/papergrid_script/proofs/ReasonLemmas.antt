@@ -1,7 +1,7 @@
 -- Why an input has no sizes, beside how its run ends and what that writes.
 use Rattle.std.proofs.Common.{◌≡◌, ℕ, List, ap, refl, subst, sym}
 use Rattle.std.specs.Prelude.{◌↔◌, None, Some, Result, Ok, Err}
-use Rattle.papergrid_layout.specs.declared.sizing.Sizing.{Sizing}
+use Rattle.papergrid_tracks.specs.declared.sizing.Sizing.{Sizing}
 use Rattle.papergrid_script.specs.declared.explained.Reason.{Reason}
 use Rattle.papergrid_script.specs.declared.explained.Reason.TheVariants as reason
 use Rattle.papergrid_script.specs.declared.answer.RunEnd.TheVariants.{BadScript, Done, Refused}

@@ -16,7 +16,7 @@ use Rattle.papergrid_script.specs.Grids.{grid_of}
 use Rattle.papergrid_script.specs.Seen.{rows_seen, table_seen}
 use Rattle.papergrid_script.specs.Settings.{setting_told}
 use Rattle.papergrid_script.specs.ForProofs.Sized.{GivesEstimate}
-use Rattle.papergrid_layout.specs.declared.sizing.Sizing.{Sizing}
+use Rattle.papergrid_tracks.specs.declared.sizing.Sizing.{Sizing}
 use Rattle.papergrid_script.specs.declared.script.Script.{Script}
 use Rattle.papergrid_script.proofs.EstimateLemmas.{estimate_told, gives_also}
 use Rattle.papergrid_script.proofs.GridLemmas.{grid_told}

@@ -1,8 +1,7 @@
 -- What the program writes for an input, and how it ends.
 use Rattle.std.specs.Prelude.{ℕ, List, [], ◌∷◌, ◌++◌, Option, Some, None, Result, Ok, Err, codes, decimal, flat_map}
 use Rattle.papergrid_values.specs.declared.position.Position.{Position}
-use Rattle.papergrid_layout.specs.declared.sizing.Sizing.{Sizing}
-use Rattle.papergrid_layout.specs.declared.sizing.Sizing.TheVariants.{ByShares}
+use Rattle.papergrid_tracks.specs.declared.sizing.Sizing.{Sizing}
 use Rattle.papergrid_script.specs.declared.answer.RunEnd.{RunEnd}
 use Rattle.papergrid_script.specs.declared.answer.RunEnd.TheVariants.{Done, Refused, BadScript}
 use Rattle.papergrid_script.specs.Grammar.{space, comma}
@@ -60,11 +59,3 @@ output_by sizing input = script_text sizing (table_of input)
 -- how its run ends
 unfoldable pub end_by : Sizing → List ℕ → RunEnd
 end_by sizing input = script_end sizing (table_of input)
-
--- by shares
-abbrev pub output_of : List ℕ → List ℕ
-output_of input = output_by ByShares input
-
--- how a run by shares ends
-abbrev pub run_end_of : List ℕ → RunEnd
-run_end_of input = end_by ByShares input

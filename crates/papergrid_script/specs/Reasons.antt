@@ -3,8 +3,7 @@ use Rattle.std.specs.Prelude.{ℕ, List, [], ◌∷◌, ◌++◌, length, Option
 use Rattle.papergrid_values.specs.declared.direction.Direction.TheVariants.{Columns, Rows}
 use Rattle.papergrid_maps.specs.Spans.{span_along}
 use Rattle.papergrid_config.specs.Made.{spans_of}
-use Rattle.papergrid_layout.specs.declared.sizing.Sizing.{Sizing}
-use Rattle.papergrid_layout.specs.declared.sizing.Sizing.TheVariants.{ByShares}
+use Rattle.papergrid_tracks.specs.declared.sizing.Sizing.{Sizing}
 use Rattle.papergrid_script.specs.declared.explained.Reason.{Reason}
 use Rattle.papergrid_script.specs.declared.explained.Reason.TheVariants as reason
 use Rattle.papergrid_script.specs.Estimates.{Estimate, OutOfTable, TooLarge, Sized, estimate_of}
@@ -28,10 +27,6 @@ script_reason sizing (Ok table) = estimate_reason table (estimate_of sizing tabl
 -- the number of the first bad line, else why the table is refused; none where it has sizes that are chosen so
 unfoldable pub reason_by : Sizing → List ℕ → Option Reason
 reason_by sizing input = script_reason sizing (table_of input)
-
--- by shares
-abbrev pub reason_of : List ℕ → Option Reason
-reason_of input = reason_by ByShares input
 
 -- the line that a run writes of a reason
 abbrev pub reason_text : Reason → List ℕ

@@ -9,9 +9,10 @@ use Rattle.papergrid_config.specs.Made.{characters_of}
 use Rattle.papergrid_config.specs.declared.setting.Setting.{Setting}
 use Rattle.papergrid_walk.specs.Cells.{problem_of}
 use Rattle.papergrid_config.specs.Grids.{line_along}
-use Rattle.papergrid_layout.specs.Answers.{AreTooLargeBy, first_out_of_table}
+use Rattle.papergrid_layout.specs.Answers.{first_out_of_table}
+use Rattle.papergrid_tracks.specs.Sizings.{AreTooLargeBy}
 use Rattle.papergrid_layout.specs.Certificates.{AreSolutionsBy, Solution}
-use Rattle.papergrid_layout.specs.declared.sizing.Sizing.{Sizing}
+use Rattle.papergrid_tracks.specs.declared.sizing.Sizing.{Sizing}
 use Rattle.papergrid_walk.specs.Measures.{text_measure}
 use Rattle.papergrid_script.specs.Grids.{grid_of}
 use Rattle.papergrid_script.specs.Scripts.{Table}

@@ -3,7 +3,8 @@
 ghost use Rattle.std.specs.Prelude.{◌≡◌, ◌∷◌, ◌++◌, [], IfOk, OnOk, codes, decimal};
 ghost use Rattle.papergrid_script.specs.Estimates.{OutOfTable, Sized, TooLarge};
 ghost use Rattle.papergrid_script.specs.Outputs.{estimate_text, number_line, spaced_places, certificate_line};
-ghost use Rattle.papergrid_layout.specs.Certificates.{places_of, solutions_of};
+ghost use Rattle.papergrid_layout.specs.Certificates.{solutions_of};
+ghost use Rattle.papergrid_tracks.specs.Sizings.{places_of};
 
 use itoa::Buffer;
 use papergrid_layout::Solved;

@@ -1,40 +1,46 @@
 -- What is made of the kept cells is the answer for the problem.
-use Rattle.std.proofs.Common.{◌≡◌, ℕ, ◌+◌, ◌-◌, ◌<◌, ◌≤◌, ◌∙◌, min, Bool, false, List, length, get_or, fold, sum, take, map, sym, ap, subst, arith}
+use Rattle.std.proofs.Common.{◌≡◌, ℕ, ◌+◌, ◌-◌, ◌<◌, ◌≤◌, ◌∙◌, min, Bool, false, true, List, length, get_or, fold, sum, take, map, sym, ap, subst, arith}
 use Rattle.std.specs.Prelude.{All, None, Option, Some, Vec}
 use Rattle.std.proofs.lemmas.List.FromFn.{fill_by_all, get_or-map-range_with_len, length-map-range_with_len}
+use Rattle.std.specs.declared.alloc.Global.{Global}
 use Rattle.papergrid_values.specs.Lines.{all_lines}
 use Rattle.papergrid_values.specs.declared.position.Position.{Position}
 use Rattle.papergrid_tracks.specs.declared.demand.Demand.{Demand}
 use Rattle.papergrid_tracks.specs.declared.error.LayoutError.{LayoutError}
 use Rattle.papergrid_tracks.specs.declared.error.LayoutError.TheVariants.{OutOfTable, TooLarge, Memory}
 use Rattle.papergrid_tracks.specs.declared.demands.Demands.{Demands}
-use Rattle.papergrid_tracks.specs.Answers.{IsRefusedWhere}
+use Rattle.papergrid_tracks.specs.Sizings.{AreTooLargeBy, Certifies, IsRefused}
+use Rattle.papergrid_tracks.specs.declared.sizing.Sizing.{Sizing}
+use Rattle.papergrid_tracks.specs.declared.sizing.Sizing.TheVariants.{ByShares, Least}
 use Rattle.papergrid_tracks.specs.Fits.{Fits, IsTooLarge}
 use Rattle.papergrid_tracks.specs.ForProofs.Demands.{AreGathered, StandInOrder, no_demand}
-use Rattle.papergrid_tracks.specs.ForProofs.Settled.{IsLargeInside, line_at}
+use Rattle.papergrid_tracks.specs.ForProofs.Settled.{line_at}
 use Rattle.papergrid_tracks.specs.Problem.{Problem, problem_of_demands, total_of}
 use Rattle.papergrid_tracks.specs.Ranges.{IsInTable, first_out}
 use Rattle.papergrid_tracks.specs.Sizes.{base_sizes, grown_sizes, sizes_of, by_span}
 use Rattle.papergrid_tracks.proofs.DrawnLemmas.{lines-drawn, sizes-drawn}
-use Rattle.papergrid_tracks.proofs.OutLemmas.{large_any, out_kept, table_demands}
+use Rattle.papergrid_tracks.proofs.OutLemmas.{AreSizesTooLarge-large, large_any, out_kept, table_demands}
 use Rattle.papergrid_tracks.proofs.DemandLemmas.{base-kept, by_span-kept}
 use Rattle.papergrid_tracks.specs.declared.limits.Limits.{Limits}
-use Rattle.papergrid_tracks.specs.LeastAnswers.{AreLeastSizes, IsCriticalPath, AreLeastTooLarge}
+use Rattle.papergrid_tracks.specs.LeastAnswers.{AreLeastSizes, AreLeastTooLarge}
 use Rattle.papergrid_tracks.specs.LowestPositions.{lowest_position}
 use Rattle.papergrid_tracks.specs.TrackBoundaries.{net_minimum, boundaries_of, sizes_between}
 use Rattle.papergrid_tracks.specs.Least.{highest_position, least_of}
 use Rattle.papergrid_tracks.specs.ForProofs.Laid.{AreLaid, with_net_minimum}
 use Rattle.papergrid_tracks.specs.ForProofs.Limits.{AreLimits, AreLowestBoundaries, AreHighestBoundaries, Refuses}
-use Rattle.papergrid_tracks.specs.ForProofs.LeastSettled.{AreLowestPositions, IsCriticalPathInOrder}
+use Rattle.papergrid_tracks.specs.ForProofs.LeastSettled.{AreLowestPositions, CertifiesInOrder}
 use Rattle.papergrid_tracks.proofs.BoundaryLemmas.{AreBoundaries-boundaries_of, take_whole}
 use Rattle.papergrid_tracks.proofs.LeastLemmas.{AreLeastSizes-least_of, AreLeastTooLarge-by_all, total-least_of}
 use Rattle.papergrid_tracks.proofs.LeastDemandLemmas.{AreLaid-from_boundaries, lowest_position-is, highest_position-is, longer_asking}
 
-pub AreLeastTooLarge-large : (n : ℕ) (kept : Demands) (demands : List Demand) → AreGathered n kept demands → (line : ℕ → Bool) → IsLargeInside n kept → AreLeastTooLarge (problem_of_demands line n demands)
-AreLeastTooLarge-large n kept demands is line large =
-    let table : All (IsInTable n) demands = table_demands n kept demands is large.inside in
-    AreLeastTooLarge-by_all (problem_of_demands line n demands) table (out_kept n kept demands is ∙ large.inside)
-    (λ other fits. large_any line n other demands (sym is.held.large ∙ large.is_large) table fits.room)
+-- a large minimum size makes the sizes too large, however they are chosen
+pub AreTooLargeBy-large : (sizing : Sizing) (n : ℕ) (kept : Demands) (demands : List Demand) → AreGathered n kept demands → (line : ℕ → Bool) →
+    first_out n kept.rest.items ≡ None → kept.is_large ≡ true → AreTooLargeBy sizing (problem_of_demands line n demands)
+AreTooLargeBy-large ByShares n kept demands is line inside large = AreSizesTooLarge-large n kept demands is line inside large
+AreTooLargeBy-large Least n kept demands is line inside large =
+    let table : All (IsInTable n) demands = table_demands n kept demands is inside in
+    AreLeastTooLarge-by_all (problem_of_demands line n demands) table (out_kept n kept demands is ∙ inside)
+    (λ other fits. large_any line n other demands (sym is.held.large ∙ large) table fits.room)
 
 -- where the boundaries agree, so do the sizes between them
 between-same : (n : ℕ) (f g : ℕ → ℕ) → ((i : ℕ) → i ≤ n → f i ≡ g i) → sizes_between n f ≡ sizes_between n g
@@ -82,10 +88,10 @@ module _ (line : ℕ → Bool) (n : ℕ) (kept : Demands) (demands : List Demand
           let all : 18446744073709551616 ≤ sum other + all_lines line n = omega arith in
           all
 
-  pub IsRefusedWhere-refuses : (e : LayoutError) → Refuses ((boundary : ℕ → ℕ) → AreLaid base asking boundary → 18446744073709551616 ≤ boundary (length base) + all_lines drawn (length base)) e → IsRefusedWhere (problem_of_demands line n demands) (AreLeastTooLarge (problem_of_demands line n demands)) e
-  IsRefusedWhere-refuses (OutOfTable place) refused = absurd refused
-  IsRefusedWhere-refuses TooLarge refused = past refused
-  IsRefusedWhere-refuses (Memory e) refused = tt
+  pub IsRefused-refuses : (e : LayoutError) → Refuses ((boundary : ℕ → ℕ) → AreLaid base asking boundary → 18446744073709551616 ≤ boundary (length base) + all_lines drawn (length base)) e → IsRefused Least (problem_of_demands line n demands) e
+  IsRefused-refuses (OutOfTable place) refused = absurd refused
+  IsRefused-refuses TooLarge refused = past refused
+  IsRefused-refuses (Memory e) refused = tt
 
   module _ (limits : Limits) (are : AreLimits drawn base asking limits) where
     lowest_position-asking : AreLowestBoundaries base (longer_asking line drawn n is_kept.limit demands agree table is_kept.below base base_is many) limits.lowest_position.items
@@ -154,8 +160,9 @@ module _ (line : ℕ → Bool) (n : ℕ) (kept : Demands) (demands : List Demand
         boundary_at = lowest_position-is line drawn n is_kept.limit demands agree table is_kept.below base base_is many limits.lowest_position.items lowest_position-asking;
       }
 
--- where the demands stand in order, these are the places that certify the least sizes
-pub IsCriticalPath-in_order : {Z : Type 0} (problem : Problem) (certificate : Option (Vec Position Z)) → StandInOrder problem.demands →
-    IsCriticalPathInOrder problem certificate → IsCriticalPath problem certificate
-IsCriticalPath-in_order problem None ordered none = none
-IsCriticalPath-in_order problem (Some places) ordered critical_path = critical_path ordered
+-- where the demands stand in order, these are the places that certify the sizes
+pub Certifies-in_order : (sizing : Sizing) (problem : Problem) (certificate : Option (Vec Position Global)) → StandInOrder problem.demands →
+    CertifiesInOrder sizing problem certificate → Certifies sizing problem certificate
+Certifies-in_order ByShares problem certificate ordered is = is
+Certifies-in_order Least problem None ordered none = none
+Certifies-in_order Least problem (Some places) ordered critical_path = critical_path ordered

@@ -1,17 +1,14 @@
 -- The first cell out of the table, and minimum sizes past the greatest `usize`.
-use Rattle.std.proofs.Common.{Bool, List, [], ap, arith, false, inl, inr, map, nat_lt, refl, sum, sym, true, ℕ, ◌+◌, ◌<◌, ◌||◌, ◌∙◌, ◌∷◌, ◌≡◌, ◌≤◌}
+use Rattle.std.proofs.Common.{Bool, List, [], ap, arith, false, inl, inr, map, nat_lt, refl, sum, sym, true, ℕ, ◌+◌, ◌||◌, ◌∙◌, ◌∷◌, ◌≡◌, ◌≤◌}
 use Rattle.std.specs.Prelude.{Option, Some, None, is_some, All, if◌then◌else◌}
 use Rattle.std.specs.List.{list_any}
 use Rattle.std.proofs.lemmas.Bool.{false≢true, cases_Bool, ltb-false, leb-true}
 use Rattle.std.proofs.lemmas.List.Elements.{All-nil, All-cons, All-head, All-tail}
-use Rattle.papergrid_tracks.specs.Problem.{Problem, problem_of_demands}
+use Rattle.papergrid_tracks.specs.Problem.{problem_of_demands}
 use Rattle.papergrid_values.specs.Lines.{all_lines}
 use Rattle.papergrid_tracks.specs.declared.demand.Demand.{Demand}
 use Rattle.papergrid_tracks.specs.declared.demands.Demands.{Demands}
-use Rattle.papergrid_tracks.specs.declared.error.LayoutError.{LayoutError}
-use Rattle.papergrid_tracks.specs.declared.error.LayoutError.TheVariants.{OutOfTable, TooLarge, Memory}
-use Rattle.papergrid_tracks.specs.Answers.{IsRefusedWhere, AreSizesTooLarge}
-use Rattle.papergrid_tracks.specs.ForProofs.Settled.{IsLargeInside}
+use Rattle.papergrid_tracks.specs.Answers.{AreSizesTooLarge}
 use Rattle.papergrid_tracks.specs.Ranges.{IsInTable, end_of, first_out, place_of}
 use Rattle.papergrid_tracks.specs.Fits.{HasRoom}
 use Rattle.papergrid_tracks.specs.ForProofs.Demands.{AreGathered, is_large, rest_of, without_minimum}
@@ -52,12 +49,6 @@ large_any line n sizes (d ∷ ds) e table room = elim (cases_Bool (is_large d)) 
   | inr f ↦ large_any line n sizes ds (ap (λ b. b || list_any is_large ds) (sym f) ∙ e) (All-tail (IsInTable n) d ds table) (All-tail (HasRoom line sizes) d ds room)
 ]
 
--- a refusal of which less is known
-pub IsRefusedWhere-weaker : (problem : Problem) {P Q : Type 0} → (P → Q) → (e : LayoutError) → IsRefusedWhere problem P e → IsRefusedWhere problem Q e
-IsRefusedWhere-weaker problem f (OutOfTable place) r = r
-IsRefusedWhere-weaker problem f TooLarge r = f r
-IsRefusedWhere-weaker problem f (Memory e) r = tt
-
 module _ (n : ℕ) (kept : Demands) (demands : List Demand) (is : AreGathered n kept demands) where
   pub out_kept : first_out n demands ≡ first_out n kept.rest.items
   out_kept = sym (first_out-rest_of n is.limit demands is.below) ∙ same_out n (rest_of is.limit demands) kept.rest.items (sym is.held.ranges)
@@ -65,13 +56,13 @@ module _ (n : ℕ) (kept : Demands) (demands : List Demand) (is : AreGathered n 
   pub table_demands : first_out n kept.rest.items ≡ None → All (IsInTable n) demands
   table_demands none = none_out n demands (out_kept ∙ none) is.held.spans
 
-  pub AreSizesTooLarge-large : (line : ℕ → Bool) → IsLargeInside n kept → AreSizesTooLarge (problem_of_demands line n demands)
-  AreSizesTooLarge-large line large =
-      let table = table_demands large.inside in
-      let any = sym is.held.large ∙ large.is_large in
+  pub AreSizesTooLarge-large : (line : ℕ → Bool) → first_out n kept.rest.items ≡ None → kept.is_large ≡ true → AreSizesTooLarge (problem_of_demands line n demands)
+  AreSizesTooLarge-large line inside large =
+      let table = table_demands inside in
+      let any = sym is.held.large ∙ large in
       let problem = problem_of_demands line n demands in
       record {
-        none_out = out_kept ∙ large.inside;
+        none_out = out_kept ∙ inside;
         too_large = large_any line n (sizes_of problem) demands any table (Fits-sizes_of (problem_of_demands line n demands) table).room;
         others_too_large = λ laminar other fits. large_any line n other demands any table fits.room;
       }

@@ -1,5 +1,5 @@
 -- What an answer of least sizes says of the cells' demands.
-use Rattle.std.specs.Prelude.{◌≡◌, ℕ, ◌^◌, ◌<◌, ◌≤◌, List, All, EachIndex, slice_index, map, reverse, Option, None, Some, Vec}
+use Rattle.std.specs.Prelude.{◌≡◌, ℕ, ◌^◌, ◌<◌, ◌≤◌, List, All, EachIndex, slice_index, map, reverse, None}
 use Rattle.papergrid_values.specs.declared.position.Position.{Position}
 use Rattle.papergrid_tracks.specs.declared.demand.Demand.{Demand}
 use Rattle.papergrid_tracks.specs.Problem.{Problem, total_of}
@@ -33,8 +33,3 @@ module _ (problem : Problem) where
     pub none_out : first_out problem.count problem.demands ≡ None
     pub too_large : IsTooLarge problem (least_of problem)
     pub others_too_large : (other : List ℕ) → Fits problem other → IsTooLarge problem other
-
--- the positions of these cells; there always are some
-abbrev pub IsCriticalPath : {Z : Type 0} → Problem → Option (Vec Position Z) → Type 0
-IsCriticalPath problem None = ⊥
-IsCriticalPath problem (Some places) = AreCriticalPath problem places.items

@@ -11,5 +11,6 @@ pub mod Problem
 pub mod Ranges
 pub mod Rows
 pub mod Sizes
+pub mod Sizings
 pub mod TrackBoundaries
 pub mod ForProofs

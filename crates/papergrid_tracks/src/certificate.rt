@@ -2,7 +2,8 @@
 
 ghost use Rattle.std.specs.Prelude.{◌≡◌, ◌↔◌, All, IfOk, IsTrue, false, true};
 ghost use Rattle.papergrid_tracks.specs.Problem.{Problem};
-ghost use Rattle.papergrid_tracks.specs.Answers.{IsCertificateOrNone};
+ghost use Rattle.papergrid_tracks.specs.Sizings.{Certifies};
+ghost use Rattle.papergrid_tracks.specs.declared.sizing.Sizing.TheVariants as sizings;
 ghost use Rattle.papergrid_tracks.specs.ForProofs.LastCells.{IsLaminarInOrder};
 ghost use Rattle.papergrid_tracks.specs.Ranges.{IsInTable};
 ghost use Rattle.papergrid_tracks.specs.ForProofs.Demands.{AreGathered};
@@ -43,7 +44,7 @@ pub fn certificate_of(
         × AreGrown problem sizes.now cells.now growing_cells.now }
     ensures asked { (problem : Problem) → AreGathered problem.count kept.now problem.demands →
         AreGrown problem sizes.now cells.now growing_cells.now →
-        certify ≡ true → IfOk result (IsCertificateOrNone problem) }
+        certify ≡ true → IfOk result (Certifies sizings.ByShares problem) }
     ensures unasked { certify ≡ false → IfOk result (λ certificate. certificate ≡ None) }
 {
     if !certify {

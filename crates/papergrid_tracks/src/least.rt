@@ -66,17 +66,13 @@ fn certificate_of(
 
 /// With the least total: there are no sizes only where none with room for each cell come with all lines
 /// to at most the greatest `usize`. There always is a certificate.
+#[derive(Clone, Debug, PartialEq, Drop)]
 pub struct ByLeastTotal {}
 
 impl Solver for ByLeastTotal {
-    ghost use Rattle.papergrid_tracks.specs.LeastAnswers.{AreLeastSizes, AreLeastTooLarge};
+    ghost use Rattle.papergrid_tracks.specs.declared.sizing.Sizing.TheVariants.{Least};
 
-    ghost are_sizes = { AreLeastSizes };
-
-    // What certifies them is told where the demands stand by row and then by column.
-    ghost certifies = { λ problem certificate. IsCriticalPathInOrder problem certificate };
-
-    ghost too_large = { AreLeastTooLarge };
+    ghost sizing = { Least };
 
     fn solve<A: Axis>(
         alloc: Global,

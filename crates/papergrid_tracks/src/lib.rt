@@ -24,6 +24,7 @@ mod lines;
 mod lower;
 pub mod settled;
 mod size_list;
+mod sizing;
 pub mod solution;
 pub mod worked;
 
@@ -35,4 +36,5 @@ pub use demands::Demands;
 pub use error::{LayoutError, LayoutResult};
 pub use least::ByLeastTotal;
 pub use size_list::{SizeList, replace_sizes};
+pub use sizing::Sizing;
 pub use solution::{ByShares, Solved, Solver};

@@ -8,8 +8,9 @@ ghost use Rattle.papergrid_tracks.specs.ForProofs.Demands.{AreGathered, no_deman
 ghost use Rattle.papergrid_tracks.specs.Laminar.{longer};
 ghost use Rattle.papergrid_tracks.specs.Sizes.{by_span};
 ghost use Rattle.papergrid_tracks.specs.declared.demand.Demand.{Demand};
-ghost use Rattle.papergrid_tracks.specs.Answers.{IsRefusedWhere};
-ghost use Rattle.papergrid_tracks.specs.ForProofs.Settled.{IsLargeInside, line_at};
+ghost use Rattle.papergrid_tracks.specs.Sizings.{IsRefused};
+ghost use Rattle.papergrid_tracks.specs.declared.sizing.Sizing.{Sizing};
+ghost use Rattle.papergrid_tracks.specs.ForProofs.Settled.{line_at};
 
 use crate::axis::Axis;
 use crate::demand::Demand;
@@ -99,10 +100,9 @@ pub fn find_out(count: usize, demands: &[Demand]) -> Option<Position>
 /// minimum size.
 pub fn refusal(count: usize, kept: &Demands) -> Option<LayoutError>
     requires { (demands : List Demand) × AreGathered count kept.now demands }
-    ensures refused { IfSome result (λ error.
+    ensures refused { IfSome result (λ error. (sizing : Sizing)
         (line : ℕ → Bool) (demands : List Demand) → AreGathered count kept.now demands →
-        IsRefusedWhere (problem_of_demands line count demands)
-        (IsLargeInside count kept.now) error) }
+        IsRefused sizing (problem_of_demands line count demands) error) }
     ensures inside { IfNone result (first_out count kept.now.rest.items ≡ None) }
     ensures small { IfNone result (kept.now.is_large ≡ false) }
 {

@@ -1,12 +1,12 @@
 //! The answer for a direction of a configuration, once all cells are kept.
 
-ghost use Rattle.std.specs.Prelude.{List, Option, Vec, ℕ};
-ghost use Rattle.std.specs.declared.alloc.Global.{Global};
-ghost use Rattle.papergrid_values.specs.declared.position.Position.{Position};
-ghost use Rattle.papergrid_tracks.specs.Answers.{AnswersWhere, IsSolvedBy};
-ghost use Rattle.papergrid_tracks.specs.Problem.{Problem, problem_of_demands};
+ghost use Rattle.std.specs.Prelude.{List};
+ghost use Rattle.papergrid_tracks.specs.Sizings.{Answers, IsSolvedBy};
+ghost use Rattle.papergrid_tracks.specs.declared.sizing.Sizing.{Sizing};
+ghost use Rattle.papergrid_tracks.specs.Problem.{problem_of_demands};
 ghost use Rattle.papergrid_tracks.specs.declared.demand.Demand.{Demand};
 ghost use Rattle.papergrid_tracks.specs.ForProofs.Demands.{AreGathered};
+ghost use Rattle.papergrid_tracks.specs.ForProofs.LeastSettled.{CertifiesInOrder};
 
 use crate::axis::Axis;
 use crate::certificate::certificate_of;
@@ -29,14 +29,8 @@ pub struct Solved {
 
 /// A way to find sizes.
 pub trait Solver {
-    // What holds of the sizes that it finds of a problem.
-    ghost are_sizes: { Problem → List ℕ → Type 0 };
-
-    // What holds of the certificate.
-    ghost certifies: { Problem → Option (Vec Position Global) → Type 0 };
-
-    // What holds of a problem for which it is refused as too large.
-    ghost too_large: { Problem → Type 0 };
+    // How the sizes that it finds are chosen.
+    ghost sizing: { Sizing };
 
     /// What the kept cells of a table of `count` tracks come to, with the lines of the axis.
     ///
@@ -54,21 +48,18 @@ pub trait Solver {
         requires { (demands : List Demand) × AreGathered count kept.now demands }
         ensures { (demands : List Demand) → AreGathered count kept.now demands →
             let problem = problem_of_demands (A.line axis.now) count demands in
-            AnswersWhere too_large (IsSolvedBy are_sizes certifies certify) problem result };
+            Answers sizing (IsSolvedBy sizing (CertifiesInOrder sizing) certify) problem result };
 }
 
 /// By shares: the deficit of a cell of a longer range is distributed evenly over it. There is
 /// no certificate where two longer ranges are neither nested nor disjoint.
+#[derive(Clone, Debug, PartialEq, Drop)]
 pub struct ByShares {}
 
 impl Solver for ByShares {
-    ghost use Rattle.papergrid_tracks.specs.Answers.{AreSizes, IsCertificateOrNone, AreSizesTooLarge};
+    ghost use Rattle.papergrid_tracks.specs.declared.sizing.Sizing.TheVariants as sizings;
 
-    ghost are_sizes = { AreSizes };
-
-    ghost certifies = { λ problem certificate. IsCertificateOrNone problem certificate };
-
-    ghost too_large = { AreSizesTooLarge };
+    ghost sizing = { sizings.ByShares };
 
     fn solve<A: Axis>(
         alloc: Global,

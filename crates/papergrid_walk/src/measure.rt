@@ -24,9 +24,11 @@ pub trait Measure<C> {
 }
 
 /// By the lines between newlines.
+#[derive(Clone, Debug, PartialEq, Drop)]
 pub struct ByLines {}
 
 /// By what the cell itself says.
+#[derive(Clone, Debug, PartialEq, Drop)]
 pub struct ByCell {}
 
 /// By std's lines for the width, and by the lines between newlines for the height.

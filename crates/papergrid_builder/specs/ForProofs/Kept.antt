@@ -3,7 +3,7 @@ use Rattle.std.specs.Prelude.{ℕ, Bool, List, Option, IfSome, length, option_ma
 use Rattle.papergrid_config.specs.declared.setting.Setting.{Setting}
 use Rattle.papergrid_layout.specs.Certificates.{solutions_of}
 use Rattle.papergrid_layout.specs.Tables.{TableParts}
-use Rattle.papergrid_layout.specs.declared.sizing.Sizing.{Sizing}
+use Rattle.papergrid_tracks.specs.declared.sizing.Sizing.{Sizing}
 use Rattle.papergrid_json.specs.Documents.{AreInRange}
 use Rattle.papergrid_builder.specs.Layouts.{IsFoundTable, parts_found}
 use Rattle.papergrid_builder.specs.Told.{FoundTable, ToldTable}

@@ -2,8 +2,8 @@
 
 ghost use Rattle.std.specs.Prelude.{IfOk};
 ghost use Rattle.papergrid_tracks.specs.Answers.{AreSizes};
-ghost use Rattle.papergrid_layout.specs.Answers.{IsTotal};
-ghost use Rattle.papergrid_layout.specs.declared.sizing.Sizing.TheVariants as sizings;
+ghost use Rattle.papergrid_tracks.specs.Sizings.{IsTotal};
+ghost use Rattle.papergrid_tracks.specs.declared.sizing.Sizing.TheVariants as sizings;
 ghost use Rattle.papergrid_layout_checks.specs.Strings.{columns_problem};
 
 use papergrid_config::SpannedConfig;

@@ -1,5 +1,5 @@
 -- What a checker keeps of the visible cells that it met, given sizes and a list of positions.
-use Rattle.std.specs.Prelude.{◌≡◌, ℕ, ◌+◌, sum, ◌*◌, ◌^◌, ◌<◌, ◌≤◌, Bool, true, false, List, length, sum_by, ◌≢◌, All, AllPairs}
+use Rattle.std.specs.Prelude.{◌≡◌, ℕ, ◌+◌, sum, ◌*◌, ◌^◌, ◌≤◌, Bool, true, false, List, length, sum_by, ◌≢◌, All, AllPairs}
 use Rattle.papergrid_values.specs.declared.position.Position.{Position}
 use Rattle.papergrid_tracks.specs.declared.checked.Checked.{Checked}
 use Rattle.papergrid_tracks.specs.declared.candidate.Candidate.{Candidate}

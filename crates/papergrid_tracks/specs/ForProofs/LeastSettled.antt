@@ -1,5 +1,6 @@
 -- What is known of the lowest positions of the boundaries once the sizes are least.
 use Rattle.std.specs.Prelude.{◌≡◌, ℕ, ◌+◌, ◌^◌, ◌<◌, ◌≤◌, Bool, List, None, Option, Some, Vec, length, slice_index, All}
+use Rattle.std.specs.declared.alloc.Global.{Global}
 use Rattle.papergrid_values.specs.declared.position.Position.{Position}
 use Rattle.papergrid_tracks.specs.ForProofs.Demands.{StandInOrder}
 use Rattle.papergrid_tracks.specs.ForProofs.Settled.{line_at}
@@ -9,6 +10,9 @@ use Rattle.papergrid_tracks.specs.LowestPositions.{lowest_position}
 use Rattle.papergrid_tracks.specs.TrackBoundaries.{net_minimum}
 use Rattle.papergrid_tracks.specs.Least.{least_of}
 use Rattle.papergrid_tracks.specs.LeastAnswers.{AreCriticalPath}
+use Rattle.papergrid_tracks.specs.Sizings.{Certifies}
+use Rattle.papergrid_tracks.specs.declared.sizing.Sizing.{Sizing}
+use Rattle.papergrid_tracks.specs.declared.sizing.Sizing.TheVariants.{ByShares, Least}
 
 -- the lines and the lowest positions of the boundaries of a problem whose least total fits
 pub record AreLowestPositions (problem : Problem) (lines : List Bool) (boundaries : List ℕ) : Type 0 where
@@ -25,3 +29,8 @@ pub record AreLowestPositions (problem : Problem) (lines : List Bool) (boundarie
 abbrev pub IsCriticalPathInOrder : {Z : Type 0} → Problem → Option (Vec Position Z) → Type 0
 IsCriticalPathInOrder problem None = ⊥
 IsCriticalPathInOrder problem (Some places) = StandInOrder problem.demands → AreCriticalPath problem places.items
+
+-- what certifies the sizes; of least ones it is told where the demands stand in order
+abbrev pub CertifiesInOrder : Sizing → Problem → Option (Vec Position Global) → Type 0
+CertifiesInOrder ByShares problem certificate = Certifies ByShares problem certificate
+CertifiesInOrder Least problem certificate = IsCriticalPathInOrder problem certificate

@@ -1,20 +1,14 @@
 -- What is known once the cells of longer ranges were taken.
-use Rattle.std.specs.Prelude.{◌≡◌, ℕ, ◌^◌, ◌<◌, Bool, false, true, None, List, slice_index_or, All}
+use Rattle.std.specs.Prelude.{◌≡◌, ℕ, ◌^◌, ◌<◌, Bool, false, List, slice_index_or, All}
 use Rattle.papergrid_tracks.specs.declared.demand.Demand.{Demand}
 use Rattle.papergrid_tracks.specs.Problem.{Problem, total_of}
 use Rattle.papergrid_tracks.specs.Certificates.{growing_cells_of}
-use Rattle.papergrid_tracks.specs.Ranges.{IsInTable, first_out}
-use Rattle.papergrid_tracks.specs.declared.demands.Demands.{Demands}
+use Rattle.papergrid_tracks.specs.Ranges.{IsInTable}
 use Rattle.papergrid_tracks.specs.Sizes.{sizes_of, by_span}
 
 -- whether a line is drawn, by a list that says so of each number; none past its end
 abbrev pub line_at : List Bool → ℕ → Bool
 line_at lines i = slice_index_or lines i false
-
--- no cell overflows so many tracks, and one has a large minimum size
-pub record IsLargeInside (count : ℕ) (kept : Demands) : Type 0 where
-  pub inside : first_out count kept.rest.items ≡ None
-  pub is_large : kept.is_large ≡ true
 
 -- the sizes by shares, the cells as they were taken and those that grew
 pub record AreGrown (problem : Problem) (sizes : List ℕ)

@@ -1,3 +1,4 @@
+use Rattle.papergrid_tracks.specs.declared.sizing.Sizing.TheVariants.{ByShares}
 use Rattle.papergrid_walk.specs.Measures.{line_measure}
 use Rattle.papergrid.specs.Layouts.{IsLaidOut}
 use Rattle.papergrid_script.proofs.GridLemmas.{settings_read}
@@ -7,11 +8,11 @@ use Rattle.papergrid.proofs.table_layout.layout.Goals as goal
 pub returns-clause-sizes : goal.returns-clause-sizes
 returns-clause-sizes g c =
     settings_read (g.R.Records.tells c.args.records)
-    (λ grid cells result. IsLaidOut grid (line_measure g.R.Iter.Cell.AsStr.text) (g.R.Records.columns c.args.records) cells result)
+    (λ grid cells result. IsLaidOut grid (line_measure g.R.Iter.Cell.AsStr.text) (g.R.Records.columns c.args.records) cells ByShares result)
     c.args.settings.items c.in_ok-config.config c.in_ok-config.ensures.told c.laid_out.result c.laid_out.ensures.ok c.laid_out.ensures.err
 
 pub returns-clause-settings : goal.returns-clause-settings
 returns-clause-settings g c =
     configured_read (g.R.Records.tells c.args.records)
-    (λ grid cells result. IsLaidOut grid (line_measure g.R.Iter.Cell.AsStr.text) (g.R.Records.columns c.args.records) cells result)
+    (λ grid cells result. IsLaidOut grid (line_measure g.R.Iter.Cell.AsStr.text) (g.R.Records.columns c.args.records) cells ByShares result)
     c.args.settings.items c.in_ok-config.config c.in_ok-config.ensures c.laid_out.result c.laid_out.ensures.ok c.laid_out.ensures.err

@@ -1,5 +1,6 @@
+use Rattle.papergrid_tracks.specs.declared.sizing.Sizing.TheVariants.{Least}
 use Rattle.papergrid_walk.specs.Measures.{line_measure}
-use Rattle.papergrid.specs.Layouts.{IsLaidOutLeast}
+use Rattle.papergrid.specs.Layouts.{IsLaidOut}
 use Rattle.papergrid_script.proofs.GridLemmas.{settings_read}
 use Rattle.papergrid.proofs.ConfiguredLemmas.{configured_read}
 use Rattle.papergrid.proofs.table_layout.layout_least.Goals as goal
@@ -7,11 +8,11 @@ use Rattle.papergrid.proofs.table_layout.layout_least.Goals as goal
 pub returns-clause-sizes : goal.returns-clause-sizes
 returns-clause-sizes g c =
     settings_read (g.R.Records.tells c.args.records)
-    (λ grid cells result. IsLaidOutLeast grid (line_measure g.R.Iter.Cell.AsStr.text) (g.R.Records.columns c.args.records) cells result)
+    (λ grid cells result. IsLaidOut grid (line_measure g.R.Iter.Cell.AsStr.text) (g.R.Records.columns c.args.records) cells Least result)
     c.args.settings.items c.in_ok-config.config c.in_ok-config.ensures.told c.laid_out.result c.laid_out.ensures.ok c.laid_out.ensures.err
 
 pub returns-clause-settings : goal.returns-clause-settings
 returns-clause-settings g c =
     configured_read (g.R.Records.tells c.args.records)
-    (λ grid cells result. IsLaidOutLeast grid (line_measure g.R.Iter.Cell.AsStr.text) (g.R.Records.columns c.args.records) cells result)
+    (λ grid cells result. IsLaidOut grid (line_measure g.R.Iter.Cell.AsStr.text) (g.R.Records.columns c.args.records) cells Least result)
     c.args.settings.items c.in_ok-config.config c.in_ok-config.ensures c.laid_out.result c.laid_out.ensures.ok c.laid_out.ensures.err

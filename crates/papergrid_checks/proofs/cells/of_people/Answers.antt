@@ -1,13 +1,14 @@
 use Rattle.std.specs.Prelude.{string_bytes}
-use Rattle.papergrid_tracks.specs.Answers.{AreSizes, AreSizesTooLarge}
+use Rattle.papergrid_tracks.specs.Answers.{AreSizes}
 use Rattle.papergrid_values.specs.declared.direction.Direction.TheVariants.{Columns}
 use Rattle.papergrid_config.specs.Grids.{spanned_grid}
 use Rattle.papergrid_walk.specs.Measures.{line_measure}
 use Rattle.papergrid_checks.specs.Rows.{cells_of}
 use Rattle.papergrid_checks.proofs.RowLemmas.{answers_told}
+use Rattle.papergrid_tracks.specs.declared.sizing.Sizing.TheVariants.{ByShares}
 use Rattle.papergrid_checks.proofs.cells.of_people.Goals as goal
 
 pub returns : goal.returns
 returns c =
     let told = rw c.new.ensures at c.width.ensures in
-    answers_told (spanned_grid c.args.config.now) (λ cell. cell.now) (line_measure (λ person. string_bytes person.name)) c.args.columns (cells_of c.args.rows.now) AreSizesTooLarge (λ problem sizes. AreSizes problem sizes.items) Columns _ told
+    answers_told (spanned_grid c.args.config.now) (λ cell. cell.now) (line_measure (λ person. string_bytes person.name)) c.args.columns (cells_of c.args.rows.now) ByShares (λ problem sizes. AreSizes problem sizes.items) Columns _ told

@@ -1,11 +1,12 @@
-use Rattle.papergrid_tracks.specs.LeastAnswers.{AreLeastSizes, AreLeastTooLarge}
+use Rattle.papergrid_tracks.specs.LeastAnswers.{AreLeastSizes}
 use Rattle.papergrid_config.specs.Grids.{spanned_grid}
 use Rattle.papergrid_checks.specs.Rows.{cells_of, lent_measure}
 use Rattle.papergrid_checks.proofs.RowLemmas.{refused_on, sizes_told}
+use Rattle.papergrid_tracks.specs.declared.sizing.Sizing.TheVariants.{Least}
 use Rattle.papergrid_checks.proofs.dimensions.of_crossing.Goals as goal
 
 pub returns-in_err-estimate : goal.returns-in_err-estimate
-returns-in_err-estimate c = refused_on (spanned_grid c.args.config.now) (λ cell. cell.now) lent_measure 3 (cells_of c.args.rows.now) AreLeastTooLarge _ _ _ c.from_residual.ensures.1 (rw c.new.ensures at c.in_err-estimate.ensures.err)
+returns-in_err-estimate c = refused_on (spanned_grid c.args.config.now) (λ cell. cell.now) lent_measure 3 (cells_of c.args.rows.now) Least _ _ _ c.from_residual.ensures.1 (rw c.new.ensures at c.in_err-estimate.ensures.err)
 
 pub returns : goal.returns
 returns c = sizes_told (spanned_grid c.args.config.now) (λ cell. cell.now) lent_measure 3 (cells_of c.args.rows.now) AreLeastSizes _ _ _ _ c.get_values.ensures.widths c.get_values.ensures.heights (rw c.new.ensures at c.in_ok-estimate.ensures.ok)

@@ -2,7 +2,7 @@ use Rattle.std.proofs.Common.{◌≡◌, ◌∙◌, ◌∷◌, [], ℕ, List, ma
 use Rattle.std.specs.Prelude.{Vec}
 use Rattle.std.specs.Borrow.{Bor}
 use Rattle.std.specs.declared.alloc.Global.{Global}
-use Rattle.papergrid_tracks.specs.Answers.{AreSizes, AreSizesTooLarge}
+use Rattle.papergrid_tracks.specs.Answers.{AreSizes}
 use Rattle.papergrid_tracks.specs.declared.error.LayoutError.{LayoutError}
 use Rattle.papergrid_tracks.specs.declared.error.LayoutError.TheVariants.{OutOfTable, TooLarge, Memory}
 use Rattle.papergrid_layout.specs.Answers.{UnlessMemoryError}
@@ -11,6 +11,7 @@ use Rattle.papergrid_config.specs.Grids.{spanned_grid}
 use Rattle.papergrid_walk.specs.Measures.{line_measure}
 use Rattle.papergrid_checks.specs.declared.entries.Entry.{Entry}
 use Rattle.papergrid_checks.proofs.RowLemmas.{refused_on, sizes_told}
+use Rattle.papergrid_tracks.specs.declared.sizing.Sizing.TheVariants.{ByShares}
 use Rattle.papergrid_checks.proofs.entries.of_entries.Goals as goal
 
 abbrev entry_texts : Entry → List (List ℕ)
@@ -29,7 +30,7 @@ of_lent_texts Holds rows texts (Memory e) same is = tt
 
 pub returns-in_err-estimate : goal.returns-in_err-estimate
 returns-in_err-estimate c =
-    refused_on (spanned_grid c.args.config.now) (λ cell. cell.now.now) (line_measure (λ text. text)) 2 (map entry_texts c.args.entries.now) AreSizesTooLarge _ _ _ c.from_residual-in_err-estimate.ensures.1
+    refused_on (spanned_grid c.args.config.now) (λ cell. cell.now.now) (line_measure (λ text. text)) 2 (map entry_texts c.args.entries.now) ByShares _ _ _ c.from_residual-in_err-estimate.ensures.1
     (of_lent_texts _ _ (map entry_texts c.args.entries.now) _ c.in_ok-rows.ensures (rw c.new.ensures at c.in_err-estimate.ensures.err))
 
 pub returns : goal.returns

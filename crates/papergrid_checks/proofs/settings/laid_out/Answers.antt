@@ -1,3 +1,4 @@
+use Rattle.papergrid_tracks.specs.declared.sizing.Sizing.TheVariants.{ByShares}
 use Rattle.papergrid_script.specs.Grids.{grid_of}
 use Rattle.papergrid_checks.specs.Rows.{cells_of, lent_measure}
 use Rattle.papergrid_checks.proofs.RowLemmas.{laid_told}
@@ -6,4 +7,4 @@ use Rattle.papergrid_checks.proofs.settings.laid_out.Goals as goal
 pub returns : goal.returns
 returns c =
     let told = rw c.new.ensures at c.layout.ensures.sizes in
-    laid_told (grid_of c.args.settings.items) (λ cell. cell.now) lent_measure 3 (cells_of c.args.rows.now) _ told
+    laid_told (grid_of c.args.settings.items) (λ cell. cell.now) lent_measure 3 (cells_of c.args.rows.now) ByShares _ told

@@ -1,5 +1,5 @@
 use Rattle.std.specs.Prelude.{Err, Ok}
-use Rattle.papergrid_layout.specs.declared.sizing.Sizing.TheVariants.{ByShares}
+use Rattle.papergrid_tracks.specs.declared.sizing.Sizing.TheVariants.{ByShares}
 use Rattle.papergrid_values.specs.declared.direction.Direction.TheVariants.{Columns}
 use Rattle.papergrid_walk.specs.Cells.{problem_of}
 use Rattle.papergrid_config.specs.Grids.{spanned_grid}

@@ -2,8 +2,8 @@ use Rattle.std.proofs.Common.{◌≡◌, ◌<◌, ℕ, arith, length, subst}
 use Rattle.std.specs.Prelude.{Err, IfOk, Ok, Result, slice_index, string_bytes}
 use Rattle.papergrid_values.specs.declared.direction.Direction.TheVariants.{Columns}
 use Rattle.papergrid_text.specs.HeldRows.{column_count}
-use Rattle.papergrid_layout.specs.Answers.{IsTotal}
-use Rattle.papergrid_layout.specs.declared.sizing.Sizing.TheVariants.{ByShares}
+use Rattle.papergrid_tracks.specs.Sizings.{IsTotal}
+use Rattle.papergrid_tracks.specs.declared.sizing.Sizing.TheVariants.{ByShares}
 use Rattle.papergrid_tracks.specs.declared.error.LayoutError.{LayoutError}
 use Rattle.papergrid_walk.specs.Cells.{problem_of}
 use Rattle.papergrid_config.specs.Grids.{spanned_grid}

@@ -4,19 +4,17 @@ use Rattle.std.proofs.lemmas.List.{with_items_is}
 use Rattle.std.proofs.lemmas.Result.{err_from_is_err_and}
 use Rattle.papergrid_tracks.specs.ForProofs.Settled.{line_at}
 use Rattle.papergrid_tracks.specs.ForProofs.Demands.{no_demand}
-use Rattle.papergrid_tracks.specs.Answers.{IsRefusedWhere}
+use Rattle.papergrid_tracks.specs.Sizings.{IsRefused}
+use Rattle.papergrid_tracks.specs.declared.sizing.Sizing.TheVariants.{Least}
 use Rattle.papergrid_tracks.specs.Problem.{problem_of_demands}
-use Rattle.papergrid_tracks.proofs.OutLemmas.{IsRefusedWhere-weaker, table_demands}
+use Rattle.papergrid_tracks.proofs.OutLemmas.{table_demands}
 use Rattle.papergrid_tracks.proofs.DemandLemmas.{table-kept}
-use Rattle.papergrid_tracks.specs.LeastAnswers.{AreLeastTooLarge}
 use Rattle.papergrid_tracks.specs.ForProofs.LeastSettled.{AreLowestPositions}
-use Rattle.papergrid_tracks.proofs.AnswerLemmas.{AreLowestPositions-made, AreLeastSizes-made, IsRefusedWhere-refuses, AreLeastTooLarge-large, total-made}
+use Rattle.papergrid_tracks.proofs.AnswerLemmas.{AreLowestPositions-made, AreLeastSizes-made, IsRefused-refuses, total-made}
 use Rattle.papergrid_tracks.proofs.least.ByLeastTotalSolver.solve.Goals as goal
 
 pub returns-in-Some : goal.returns-in-Some
-returns-in-Some g c = λ demands kept.
-    let line = g.A.Axis.line c.args.axis.now in
-    IsRefusedWhere-weaker (problem_of_demands line c.args.count demands) (AreLeastTooLarge-large c.args.count c.args.kept.now demands kept line) c.in-Some.error (c.in-Some.ensures.refused line demands kept)
+returns-in-Some g c = c.in-Some.ensures.refused Least (g.A.Axis.line c.args.axis.now)
 
 pub make_least-requires-clause-table : goal.make_least-requires-clause-table
 make_least-requires-clause-table g c =
@@ -27,8 +25,8 @@ make_least-requires-clause-table g c =
 pub returns-in_err-limits : goal.returns-in_err-limits
 returns-in_err-limits g c = λ demands kept.
     let problem = problem_of_demands (g.A.Axis.line c.args.axis.now) c.args.count demands in
-    let refused : IsRefusedWhere problem (AreLeastTooLarge problem) c.in_err-limits.field-0.0 =
-    IsRefusedWhere-refuses (g.A.Axis.line c.args.axis.now) c.args.count c.args.kept.now demands kept c.in_default.ensures.inside c.in_default.ensures.small
+    let refused : IsRefused Least problem c.in_err-limits.field-0.0 =
+    IsRefused-refuses (g.A.Axis.line c.args.axis.now) c.args.count c.args.kept.now demands kept c.in_default.ensures.inside c.in_default.ensures.small
     (line_at c.in_ok-lines.lines) c.in_ok-lines.ensures.drawn
     c.deref_mut-2.result.now (omega (arith, c.in_ok-sizes.ensures.len, c.deref_mut.ensures.len, c.write_base.ensures.length, c.deref_mut-2.ensures.len))
     (rw (c.deref_mut-2.ensures.value ∙ with_items_is c.in_ok-sizes.sizes c.write_base.new.sizes (omega arith)) (λ k l. c.write_base.ensures.base k l ∙ ap (λ ds. (get_or ds k no_demand).minimum) c.deref.ensures.value))

@@ -3,18 +3,17 @@ use Rattle.std.specs.Vec.{with_items}
 use Rattle.std.proofs.lemmas.List.{with_items_is}
 use Rattle.papergrid_tracks.specs.ForProofs.Settled.{AreGrown, line_at}
 use Rattle.papergrid_tracks.specs.Problem.{problem_of_demands, total_of}
+use Rattle.papergrid_tracks.specs.declared.sizing.Sizing.TheVariants.{ByShares}
 use Rattle.papergrid_tracks.specs.ForProofs.Demands.{no_demand}
 use Rattle.papergrid_tracks.specs.Sizes.{grown_sizes, by_span}
-use Rattle.papergrid_tracks.proofs.OutLemmas.{IsRefusedWhere-weaker, AreSizesTooLarge-large, table_demands}
+use Rattle.papergrid_tracks.proofs.OutLemmas.{table_demands}
 use Rattle.papergrid_tracks.proofs.DemandLemmas.{table-kept, by_span-kept}
 use Rattle.papergrid_tracks.proofs.SettleLemmas.{AreGrown-grown, AreSizesTooLarge-grown, total-grown}
 use Rattle.papergrid_tracks.proofs.Theorems.{AreSizes-sizes_of, table-by_span}
 use Rattle.papergrid_tracks.proofs.solution.BySharesSolver.solve.Goals as goal
 
 pub returns-in-Some : goal.returns-in-Some
-returns-in-Some g c = λ demands kept.
-    let line = g.A.Axis.line c.args.axis.now in
-    IsRefusedWhere-weaker (problem_of_demands line c.args.count demands) (AreSizesTooLarge-large c.args.count c.args.kept.now demands kept line) c.in-Some.error (c.in-Some.ensures.refused line demands kept)
+returns-in-Some g c = c.in-Some.ensures.refused ByShares (g.A.Axis.line c.args.axis.now)
 
 pub by_span-requires : goal.by_span-requires
 by_span-requires g c =
