@@ -56,8 +56,8 @@ pub mod colors {
 /// Widths of columns and heights of rows.
 pub mod dimension {
     pub use papergrid_layout::{
-        Dimension, Estimate, LayoutError, Place, PlaceError, cell_at, place, places, total_height,
-        total_width,
+        Dimension, Estimate, GridDimension, LayoutError, Place, PlaceError, cell_at, place, places,
+        total_height, total_width,
     };
 
     /// The sizes of tables whose cells all have the same settings.

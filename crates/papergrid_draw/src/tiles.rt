@@ -1,7 +1,9 @@
 //! Whether the visible cells tile a table.
 
 ghost use Rattle.std.specs.Prelude.{◌≡◌, ◌+◌, ◌-◌, ◌<◌, ◌≤◌, ◌^◌, ◌⊎◌, ◌↔◌, IfErr, IfNone, IfOk, IfSome, IsTrue, OnOk, length, slice_index};
+ghost use Rattle.papergrid_maps.specs.Anchors.{IsSorted};
 ghost use Rattle.papergrid_maps.specs.Grids.{Grid};
+ghost use Rattle.papergrid_maps.specs.Hidden.{AreAnchorsOf};
 ghost use Rattle.papergrid_config.specs.Grids.{spanned_grid};
 ghost use Rattle.papergrid_walk.specs.ForProofs.Shown.{Shows, anchor_in};
 ghost use Rattle.papergrid_layout.specs.Places.{TableView};
@@ -13,7 +15,7 @@ use papergrid_config::SpannedConfig;
 use papergrid_maps::{Anchor, ConfigView};
 use papergrid_values::Position;
 use papergrid_walk::Sweep;
-use papergrid_walk::shown::{sweep_of, visible_anchor};
+use papergrid_walk::shown::visible_anchor;
 use std::alloc::{AllocError, Global};
 
 /// Whether an anchor stands in a table of so many rows and columns, and its rectangle ends past the last row
@@ -54,14 +56,16 @@ fn ends_outside(
 
 /// Tells whether each visible cell ends in the table. It looks at the anchors alone: without one a cell is a
 /// single position.
-fn check_ends(alloc: Global, config: &SpannedConfig, shape: (usize, usize)) -> Result<(), DrawError>
-    ensures ok { OnOk result ((table : TableView) → table.grid ≡ spanned_grid config.now →
+fn check_ends(alloc: Global, anchors: &[Anchor], shape: (usize, usize)) -> Result<(), DrawError>
+    requires sorted { IsSorted anchors.now }
+    requires anchors { (table : TableView) × AreAnchorsOf table.grid anchors.now
+        × (table.shape ≡ shape) }
+    ensures ok { OnOk result ((table : TableView) → AreAnchorsOf table.grid anchors.now →
         table.shape ≡ shape → AreWithin table) }
-    ensures err { IfErr result (λ e. (table : TableView) → table.grid ≡ spanned_grid config.now →
+    ensures err { IfErr result (λ e. (table : TableView) → AreAnchorsOf table.grid anchors.now →
         table.shape ≡ shape → IsTileFault table e) }
 {
-    let anchors = ConfigView::anchors(config, alloc)?;
-    let mut sweep = sweep_of(alloc, config)?;
+    let mut sweep = Sweep::new(alloc, anchors.to_vec(alloc)?, 0)?;
     for i in 0..anchors.len() {
         let anchor = anchors[i];
         if ends_outside(&mut sweep, alloc, anchor, shape)? {
@@ -186,11 +190,12 @@ pub fn check_tiles(
     ensures err { IfErr result (λ e. (table : TableView) → table.grid ≡ spanned_grid config.now →
         table.shape ≡ shape → IsTileFault table e) }
 {
-    let sweep = sweep_of(alloc, config)?;
-    if sweep.anchors().is_empty() {
+    let anchors = ConfigView::anchors(config, alloc)?;
+    if anchors.is_empty() {
         return Ok(());
     }
-    check_ends(alloc, config, shape)?;
+    check_ends(alloc, &anchors, shape)?;
+    let sweep = Sweep::new(alloc, anchors, shape.1)?;
     let until = vec![in alloc; 0; shape.1]?;
     let mut tiling = Tiling { sweep, until };
     tiling.visit_rows(alloc, shape)
