@@ -1,7 +1,7 @@
 //! What the sizes along a direction begin with: the lines, the minimum sizes of single tracks, the
 //! cells in their order; and why there are none.
 
-ghost use Rattle.std.specs.Prelude.{All, Bool, EachIndex, IfNone, IfOk, IfSome, List, None, false, length, nat_lt, slice_index, slice_index_or, ℕ, ◌+◌, ◌≤◌, ◌≡◌};
+ghost use Rattle.std.specs.Prelude.{All, Bool, EachIndex, IfNone, IfOk, IfSome, List, None, false, true, length, nat_lt, slice_index, slice_index_or, ℕ, ◌+◌, ◌≤◌, ◌≡◌};
 ghost use Rattle.papergrid_tracks.specs.Problem.{problem_of_demands};
 ghost use Rattle.papergrid_tracks.specs.Ranges.{IsInTable, end_of, first_out};
 ghost use Rattle.papergrid_tracks.specs.ForProofs.Demands.{AreGathered, no_demand};
@@ -9,6 +9,7 @@ ghost use Rattle.papergrid_tracks.specs.Laminar.{longer};
 ghost use Rattle.papergrid_tracks.specs.Sizes.{by_span};
 ghost use Rattle.papergrid_tracks.specs.declared.demand.Demand.{Demand};
 ghost use Rattle.papergrid_tracks.specs.Sizings.{IsRefused};
+ghost use Rattle.papergrid_tracks.specs.declared.error.LayoutError.TheVariants.{TooLarge};
 ghost use Rattle.papergrid_tracks.specs.declared.sizing.Sizing.{Sizing};
 ghost use Rattle.papergrid_tracks.specs.ForProofs.Settled.{line_at};
 
@@ -103,6 +104,7 @@ pub fn refusal(count: usize, kept: &Demands) -> Option<LayoutError>
     ensures refused { IfSome result (λ error. (sizing : Sizing)
         (line : ℕ → Bool) (demands : List Demand) → AreGathered count kept.now demands →
         IsRefused sizing (problem_of_demands line count demands) error) }
+    ensures large { IfSome result (λ error. error ≡ TooLarge → kept.now.is_large ≡ true) }
     ensures inside { IfNone result (first_out count kept.now.rest.items ≡ None) }
     ensures small { IfNone result (kept.now.is_large ≡ false) }
 {
