@@ -3,13 +3,13 @@
 ghost use Rattle.std.specs.Prelude.{◌≡◌, ◌<◌, ◌≤◌, All, IfOk, OnOk, false, string_bytes, true};
 ghost use Rattle.std.specs.Int.{is_in_range};
 ghost use Rattle.std.specs.List.{prefix_len};
-ghost use Rattle.papergrid_text.specs.Separators.{begins_keycap, is_separator};
 ghost use Rattle.papergrid_text.specs.Text.{split_lines, width_of};
 ghost use Rattle.papergrid_csv.specs.Cutting.{IsCut};
 ghost use Rattle.papergrid_csv.specs.ForProofs.Cuts.{AddsLine, IsCutAt, is_apart, is_narrow_letter, is_wide_letter};
 
 use bumpalo::Bump;
 use bumpalo::collections::into_bump_str;
+use papergrid_draw::separated::is_separator;
 use papergrid_text::string::get_lines;
 use papergrid_text::width::{count_printable, is_printable, width};
 use std::alloc::AllocError;
@@ -133,40 +133,17 @@ fn stands_apart(c: char) -> bool
     is_separator(c) || is_narrow_letter(c) || is_wide_letter(c)
 }
 
-/// Whether it is a separator.
-fn is_separator(c: char) -> bool
-    ensures { result ≡ is_separator c }
-{
-    (is_within(' ', '~', c) && !begins_keycap(c)) || is_within('\u{2500}', '\u{257F}', c)
-}
-
 /// Whether it is a letter of Latin, Greek or Cyrillic that is not ASCII.
 fn is_narrow_letter(c: char) -> bool
     ensures { result ≡ is_narrow_letter c }
 {
-    is_within('\u{C0}', '\u{2FF}', c) || is_within('\u{370}', '\u{47F}', c)
+    matches!(c, '\u{C0}'..='\u{2FF}' | '\u{370}'..='\u{47F}')
 }
 
 /// Whether it is of kana, an ideograph or of Hangul.
 fn is_wide_letter(c: char) -> bool
     ensures { result ≡ is_wide_letter c }
 {
-    is_within('\u{3041}', '\u{3096}', c)
-        || is_within('\u{30A0}', '\u{30FF}', c)
-        || is_within('\u{3400}', '\u{9FFF}', c)
-        || is_within('\u{AC00}', '\u{D77F}', c)
-}
-
-/// Whether a keycap may begin with the character.
-fn begins_keycap(c: char) -> bool
-    ensures { result ≡ begins_keycap c }
-{
-    c == '#' || c == '*' || is_within('0', '9', c)
-}
-
-/// Whether the character is one of those from `first` to `last`.
-fn is_within(first: char, last: char, c: char) -> bool
-    ensures { result ≡ is_in_range first last c }
-{
-    first <= c && c <= last
+    matches!(c, '\u{3041}'..='\u{3096}' | '\u{30A0}'..='\u{30FF}')
+        || matches!(c, '\u{3400}'..='\u{9FFF}' | '\u{AC00}'..='\u{D77F}')
 }

@@ -1,7 +1,6 @@
 //! Whether separators stand between the texts of a picture, so that the widths of its texts and characters add up.
 
 ghost use Rattle.std.specs.Prelude.{◌≡◌, ◌↔◌, ◌+◌, ◌-◌, ◌^◌, ◌<◌, ◌&&◌, IfOk, IsTrue, OnOk, length};
-ghost use Rattle.std.specs.Int.{is_in_range};
 ghost use Rattle.std.specs.List.{list_all};
 ghost use Rattle.papergrid_values.specs.Borders.{border_parts, frame_parts};
 ghost use Rattle.papergrid_values.specs.Keys.{sides_parts};
@@ -126,25 +125,20 @@ fn part_separates(part: Option<char>) -> bool
     }
 }
 
-/// Whether a character is a separator.
-fn is_separator(c: char) -> bool
+/// Whether a character is a separator: the blank, printable ASCII but `#`, `*` and digits, or one of U+2500 to U+257F.
+// Asked for each character of a line that is cut.
+#[inline]
+pub fn is_separator(c: char) -> bool
     ensures { result ≡ is_separator c }
 {
-    (is_within(' ', '~', c) && !begins_keycap(c)) || is_within('\u{2500}', '\u{257F}', c)
+    (matches!(c, ' '..='~') && !begins_keycap(c)) || matches!(c, '\u{2500}'..='\u{257F}')
 }
 
 /// Whether a keycap may begin with a character.
 fn begins_keycap(c: char) -> bool
     ensures { result ≡ begins_keycap c }
 {
-    c == '#' || c == '*' || is_within('0', '9', c)
-}
-
-/// Whether a character is one of those from `first` to `last`.
-fn is_within(first: char, last: char, c: char) -> bool
-    ensures { result ≡ is_in_range first last c }
-{
-    first <= c && c <= last
+    matches!(c, '#' | '*' | '0'..='9')
 }
 
 /// Whether the texts of a table's visible cells stand apart: before each of them but those of the first column stands a
