@@ -8,11 +8,10 @@ use Rattle.papergrid_config.specs.declared.setting.Setting.{Setting}
 use Rattle.papergrid_config.specs.declared.spanned.SpannedConfig.{SpannedConfig}
 use Rattle.papergrid_walk.specs.Cells.{problem_of}
 use Rattle.papergrid_layout.specs.Answers.{AreBothSizes, HoldAlong, IsBothRefused, UnlessMemoryError}
-use Rattle.papergrid_tracks.specs.Sizings.{AreSizesBy, AreTooLargeBy}
+use Rattle.papergrid_tracks.specs.Sizings.{AreSizesBy}
 use Rattle.papergrid_layout.specs.Certificates.{IsCertifiedBy, IsSolutionBy, solution_of}
 use Rattle.papergrid_layout.specs.Tables.{IsTableOf, TableParts, view_of}
 use Rattle.papergrid_tracks.specs.declared.sizing.Sizing.{Sizing}
-use Rattle.papergrid_tracks.specs.declared.sizing.Sizing.TheVariants.{ByShares, Least}
 use Rattle.papergrid_layout.specs.Places.{sized_table, total_along}
 use Rattle.papergrid_layout.proofs.PlaceLaws.{totals}
 use Rattle.papergrid_maps.specs.Grids.{Grid}
@@ -28,7 +27,9 @@ use Rattle.papergrid_draw.specs.Cells.{lines_at, text_lines}
 use Rattle.papergrid_draw.specs.Lined.{lined}
 use Rattle.papergrid_walk.specs.Measures.{text_measure}
 use Rattle.papergrid_config.specs.Laws.{IsConfiguredBy}
-use Rattle.papergrid_draw.specs.Pictures.{IsDrawingWith, Unsized}
+use Rattle.papergrid_draw.specs.declared.error.DrawError.{DrawError}
+use Rattle.papergrid_draw.specs.declared.error.DrawError.TheVariants as draw_errors
+use Rattle.papergrid_draw.specs.Pictures.{IsDrawingWith, IsFaultWith, Unsized}
 use Rattle.papergrid_draw.proofs.PictureLemmas.{drawing-with, no-sizes-seen, sizes-seen}
 use Rattle.papergrid_builder.specs.Errors.{layout_refusal}
 use Rattle.papergrid_builder.specs.Layouts.{AreFoundSizes, IsNoFoundTable, parts_found, totals_of}
@@ -36,7 +37,7 @@ use Rattle.papergrid_builder.specs.Pictures.{IsDrawingOf, IsNotDrawn}
 use Rattle.papergrid_builder.specs.Told.{FoundTable, longest}
 use Rattle.papergrid_builder.specs.ForProofs.Kept.{found_of}
 use Rattle.papergrid_builder.specs.ForProofs.Texts.{rows_lent, texts_lent}
-use Rattle.papergrid_builder.specs.ForProofs.Sizes.{IsPictureRefused, IsUnfound}
+use Rattle.papergrid_builder.specs.ForProofs.Sizes.{IsPictureRefused, IsUnfound, draw_refusal}
 use Rattle.papergrid_builder.specs.declared.error.BuilderError.{BuilderError}
 use Rattle.papergrid_builder.specs.declared.error.BuilderError.TheVariants as builder_errors
 
@@ -86,6 +87,15 @@ module _ (config : SpannedConfig) (rows : List (List (List ℕ))) (sizing : Sizi
   undrawn-unsized (layout_errors.OutOfTable p) are = Unsized (layout_errors.OutOfTable p) refl are
   undrawn-unsized layout_errors.TooLarge are = Unsized layout_errors.TooLarge refl are
   undrawn-unsized (layout_errors.Memory e) are = tt
+
+  -- there are, and the table was refused, or an allocation failed
+  pub undrawn-refused : (e : DrawError) → IsFaultWith (longest rows) rows sizing config e → IsPictureRefused config rows sizing (draw_refusal e)
+  undrawn-refused (draw_errors.OutOfTable p) is = is
+  undrawn-refused (draw_errors.NotTiled p) is = is
+  undrawn-refused draw_errors.TooLarge is = is
+  undrawn-refused (draw_errors.NoRoom p) is = tt
+  undrawn-refused (draw_errors.Memory e) is = tt
+  undrawn-refused draw_errors.Write is = tt
 
   -- by a configuration that settings tell
   module _ (settings : List Setting) (told : IsConfiguredBy settings config) where

@@ -1,13 +1,15 @@
 //! The picture of rows of texts.
 
-ghost use Rattle.std.specs.Prelude.{◌≡◌, IfErr, IfOk, length};
+ghost use Rattle.std.specs.Prelude.{◌≡◌, ◌≢◌, IfErr, IfOk, length};
+ghost use Rattle.papergrid_values.specs.declared.position.Position.{Position};
 ghost use Rattle.papergrid_draw.specs.Drawings.{Drawing};
 ghost use Rattle.papergrid_draw.specs.Lined.{lined};
 ghost use Rattle.papergrid_draw.specs.Pictures.{IsDrawingWith};
+ghost use Rattle.papergrid_draw.specs.declared.error.DrawError.TheVariants.{NoRoom};
 ghost use Rattle.papergrid_json.specs.Documents.{AreInRange};
 ghost use Rattle.papergrid_builder.specs.Pictures.{IsDrawingOf, IsNotDrawn};
 ghost use Rattle.papergrid_builder.specs.Told.{longest};
-ghost use Rattle.papergrid_builder.specs.ForProofs.Sizes.{IsPictureRefused};
+ghost use Rattle.papergrid_builder.specs.ForProofs.Sizes.{IsPictureRefused, draw_refusal};
 ghost use Rattle.papergrid_builder.specs.ForProofs.Texts.{AreStarts, rows_lent, rows_told};
 
 use crate::byte_sink::ByteSink;
@@ -71,11 +73,20 @@ fn drawn_by(
             let ByteSink { bytes, failed: _ } = sink;
             Ok(bytes)
         }
-        Err(DrawError::OutOfTable(position)) => Err(BuilderError::OutOfTable(position)),
-        Err(DrawError::NotTiled(position)) => Err(BuilderError::NotTiled(position)),
-        Err(DrawError::TooLarge) => Err(BuilderError::TooLarge),
-        // Each cell has room in sizes that are found for it.
-        Err(DrawError::NoRoom(_)) => unreachable!(),
-        Err(DrawError::Memory(_) | DrawError::Write) => Err(BuilderError::Memory),
+        Err(error) => Err(refusal(error)),
+    }
+}
+
+/// What is answered of a table that is not drawn. Condition: each cell has room, as in sizes that are found for it.
+fn refusal(error: DrawError) -> BuilderError
+    requires { (p : Position) → error ≢ NoRoom p }
+    ensures { result ≡ draw_refusal error }
+{
+    match error {
+        DrawError::OutOfTable(position) => BuilderError::OutOfTable(position),
+        DrawError::NotTiled(position) => BuilderError::NotTiled(position),
+        DrawError::TooLarge => BuilderError::TooLarge,
+        DrawError::NoRoom(_) => unreachable!(),
+        DrawError::Memory(_) | DrawError::Write => BuilderError::Memory,
     }
 }

@@ -26,8 +26,8 @@ fn laws_of_sizes() {
     tracks::sizes_by_minimums();
     tracks::equal_by_fields();
     tracks::equal_clones();
-    layout::equal_clones();
-    layout::equal_where_same();
+    layout::equal_clones::<u8, char>();
+    layout::equal_where_same::<u8, char>();
     layout::places_have_room::<char>();
     layout::total_covers_cells::<char>();
 }

@@ -1,14 +1,13 @@
 use Rattle.std.proofs.Common.{◌∙◌, ◌++◌, ap, map, subst}
 use Rattle.std.proofs.lemmas.Result.{err_from_is_err_and}
 use Rattle.papergrid_text.proofs.RowSteps.{told_by}
-use Rattle.papergrid_draw.specs.Faults.{IsDrawFault}
 use Rattle.papergrid_draw.specs.Lined.{lined}
 use Rattle.papergrid_walk.specs.Measures.{text_measure}
 use Rattle.papergrid_draw.specs.Pictures.{Undrawn}
-use Rattle.papergrid_draw.proofs.PictureLemmas.{no-sizes-seen, room-with, unless-also}
+use Rattle.papergrid_draw.proofs.PictureLemmas.{has-room, no-sizes-seen, room-with, unless-also}
 use Rattle.papergrid_builder.specs.Told.{longest}
 use Rattle.papergrid_builder.specs.ForProofs.Texts.{rows_lent}
-use Rattle.papergrid_builder.proofs.DrawLemmas.{drawing-lent, is-drawing, undrawn-unsized}
+use Rattle.papergrid_builder.proofs.DrawLemmas.{drawing-lent, is-drawing, undrawn-refused, undrawn-unsized}
 use Rattle.papergrid_builder.proofs.drawn.drawn_by.Goals as goal
 use Rattle.papergrid_layout.specs.Answers.{IsBothRefused}
 use Rattle.papergrid_config.specs.Grids.{spanned_grid}
@@ -41,39 +40,18 @@ returns-in-Ok-clause-ok c =
     let d = drawing-lent c.args.config.now c.args.sizing c.args.rows.now c.in_ok-table.table in
     (d, is, c.in-Ok.ensures.picture.bytes_are ∙ ap (λ before. before ++ lined d) c.new-sink.ensures)
 
-pub returns-in-Err-OutOfTable-clause-err : goal.returns-in-Err-OutOfTable-clause-err
-returns-in-Err-OutOfTable-clause-err c =
+pub refusal-requires : goal.refusal-requires
+refusal-requires c =
     let rows = ap (λ r. r.iter.items) c.new-records.ensures ∙ c.in_ok-from_slice.ensures.items in
     let columns = ap (λ r. r.count_columns) c.new-records.ensures ∙ c.longest_of-columns.ensures in
     let told = c.in_ok-table.ensures in
     let is = is-drawing c.args.config.now c.args.sizing c.args.rows.now c.in_ok-table.table _ told.0 columns (told.1 ∙ ap (map (λ row. row.now)) rows) told.2 in
-    let d = drawing-lent c.args.config.now c.args.sizing c.args.rows.now c.in_ok-table.table in
-    Undrawn d is (subst (IsDrawFault d) c.in-Err-OutOfTable.field-0-is c.in-Err-OutOfTable.ensures.fault)
+    has-room (longest (rows_lent c.args.rows.now)) (rows_lent c.args.rows.now) c.args.sizing c.args.config.now c.in-Err.error (Undrawn _ is c.in-Err.ensures.fault)
 
-pub returns-in-Err-NotTiled-clause-err : goal.returns-in-Err-NotTiled-clause-err
-returns-in-Err-NotTiled-clause-err c =
+pub returns-clause-err : goal.returns-clause-err
+returns-clause-err c =
     let rows = ap (λ r. r.iter.items) c.new-records.ensures ∙ c.in_ok-from_slice.ensures.items in
     let columns = ap (λ r. r.count_columns) c.new-records.ensures ∙ c.longest_of-columns.ensures in
     let told = c.in_ok-table.ensures in
     let is = is-drawing c.args.config.now c.args.sizing c.args.rows.now c.in_ok-table.table _ told.0 columns (told.1 ∙ ap (map (λ row. row.now)) rows) told.2 in
-    let d = drawing-lent c.args.config.now c.args.sizing c.args.rows.now c.in_ok-table.table in
-    Undrawn d is (subst (IsDrawFault d) c.in-Err-NotTiled.field-0-is c.in-Err-NotTiled.ensures.fault)
-
-pub returns-in-Err-TooLarge-clause-err : goal.returns-in-Err-TooLarge-clause-err
-returns-in-Err-TooLarge-clause-err c =
-    let rows = ap (λ r. r.iter.items) c.new-records.ensures ∙ c.in_ok-from_slice.ensures.items in
-    let columns = ap (λ r. r.count_columns) c.new-records.ensures ∙ c.longest_of-columns.ensures in
-    let told = c.in_ok-table.ensures in
-    let is = is-drawing c.args.config.now c.args.sizing c.args.rows.now c.in_ok-table.table _ told.0 columns (told.1 ∙ ap (map (λ row. row.now)) rows) told.2 in
-    let d = drawing-lent c.args.config.now c.args.sizing c.args.rows.now c.in_ok-table.table in
-    Undrawn d is (subst (IsDrawFault d) c.in-Err-TooLarge.field-0-is c.in-Err-TooLarge.ensures.fault)
-
-pub unreachable-requires : goal.unreachable-requires
-unreachable-requires c =
-    let rows = ap (λ r. r.iter.items) c.new-records.ensures ∙ c.in_ok-from_slice.ensures.items in
-    let columns = ap (λ r. r.count_columns) c.new-records.ensures ∙ c.longest_of-columns.ensures in
-    let told = c.in_ok-table.ensures in
-    let is = is-drawing c.args.config.now c.args.sizing c.args.rows.now c.in_ok-table.table _ told.0 columns (told.1 ∙ ap (map (λ row. row.now)) rows) told.2 in
-    let d = drawing-lent c.args.config.now c.args.sizing c.args.rows.now c.in_ok-table.table in
-    room-with (longest (rows_lent c.args.rows.now)) (rows_lent c.args.rows.now) c.args.sizing c.args.config.now d is c.in-Err-NoRoom.field-0-0
-    (subst (IsDrawFault d) c.in-Err-NoRoom.field-0-is c.in-Err-NoRoom.ensures.fault).1.it
+    rw c.refusal.ensures (undrawn-refused c.args.config.now (rows_lent c.args.rows.now) c.args.sizing c.in-Err.error (Undrawn _ is c.in-Err.ensures.fault))
