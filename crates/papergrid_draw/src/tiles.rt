@@ -60,10 +60,10 @@ fn check_ends(alloc: Global, anchors: &[Anchor], shape: (usize, usize)) -> Resul
     requires sorted { IsSorted anchors.now }
     requires anchors { (table : TableView) × AreAnchorsOf table.grid anchors.now
         × (table.shape ≡ shape) }
-    ensures ok { OnOk result ((table : TableView) → AreAnchorsOf table.grid anchors.now →
-        table.shape ≡ shape → AreWithin table) }
-    ensures err { IfErr result (λ e. (table : TableView) → AreAnchorsOf table.grid anchors.now →
-        table.shape ≡ shape → IsTileFault table e) }
+    ensures ok { OnOk result ((table : TableView) →
+        AreAnchorsOf table.grid anchors.now → table.shape ≡ shape → AreWithin table) }
+    ensures err { IfErr result (λ e. (table : TableView) →
+        AreAnchorsOf table.grid anchors.now → table.shape ≡ shape → IsTileFault table e) }
 {
     let mut sweep = Sweep::new(alloc, anchors.to_vec(alloc)?, 0)?;
     for i in 0..anchors.len() {

@@ -60,8 +60,8 @@ IsCertificateBy Least problem (Some places) = AreCriticalPath problem places
 abbrev pub Certifies : Sizing → Problem → Option (Vec Position Global) → Type 0
 Certifies sizing problem certificate = IsCertificateBy sizing problem (places_of certificate)
 
--- what a solver finds of a problem: the sizes that are chosen so, and their total with all lines. It finds what certifies
--- them, of which this holds, where that is asked for, else no certificate
+-- what a solver finds of a problem: the sizes that are chosen so, and their total with all lines. Where it is asked for a
+-- certificate it finds one of which this holds, else none
 pub record IsSolvedBy (sizing : Sizing) (certifies : Problem → Option (Vec Position Global) → Type 0)
     (certify : Bool) (problem : Problem) (solved : Solved) : Type 0 where
   pub sizes : AreSizesBy sizing problem solved.sizes.items
