@@ -3,8 +3,8 @@ use Rattle.std.proofs.Common.{◌≡◌, ◌&&◌, ap, refl, subst, true}
 use Rattle.std.specs.Prelude.{◌↔◌, nat_eq}
 use Rattle.std.specs.Cmp.{nat_eq_equiv}
 use Rattle.std.proofs.lemmas.Bool.{and_from, and_parts, eqb-true, false≢true}
-use Rattle.papergrid_values.specs.declared.position.Position.{Position}
 use Rattle.papergrid_values.specs.contracts.position.PositionPartialEq.TheImpl as position
+use Rattle.papergrid_layout.proofs.EqualLemmas.{same-position}
 use Rattle.papergrid_tracks.specs.declared.sizing.Sizing.{Sizing}
 use Rattle.papergrid_tracks.specs.declared.sizing.Sizing.TheVariants.{ByShares, Least}
 use Rattle.papergrid_tracks.specs.contracts.sizing.SizingPartialEq.TheImpl as sizing
@@ -81,13 +81,6 @@ same-failed x y = (λ is. refl, λ e. refl)
 
 -- ---- reasons
 
-equal-position : (x y : Position) → position.ghosts.eq x y ≡ true → x ≡ y
-equal-position x y is =
-    let parts = and_parts (nat_eq x.row y.row) _ is in
-    let row = eqb-true x.row y.row parts.0 in
-    let col = eqb-true x.col y.col parts.1 in
-    λ i. record { row = row i; col = col i }
-
 itself-reason : (x : Reason) → reason.ghosts.eq x x ≡ true
 itself-reason (BadLine number) = nat_eq_equiv.refl number
 itself-reason (OutOfTable place spans shape) =
@@ -105,7 +98,7 @@ equal-reason (OutOfTable p s g) (OutOfTable q t h) is =
     let rest = and_parts _ (nat_eq g.0 h.0 && nat_eq g.1 h.1) first.1 in
     let spans = and_parts (nat_eq s.0 t.0) (nat_eq s.1 t.1) rest.0 in
     let shape = and_parts (nat_eq g.0 h.0) (nat_eq g.1 h.1) rest.1 in
-    let place = equal-position p q first.0 in
+    let place = (same-position p q).0 first.0 in
     let rows = eqb-true s.0 t.0 spans.0 in
     let columns = eqb-true s.1 t.1 spans.1 in
     let down = eqb-true g.0 h.0 shape.0 in

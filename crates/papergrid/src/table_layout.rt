@@ -1,6 +1,6 @@
 //! The layout of records by a list of settings.
 
-ghost use Rattle.std.specs.Prelude.{◌≡◌, All, IfErr, IfOk, true};
+ghost use Rattle.std.specs.Prelude.{◌≡◌, All, true};
 ghost use Rattle.papergrid_config.specs.Applied.{is_in_range};
 ghost use Rattle.papergrid_config.specs.declared.spanned.SpannedConfig.{SpannedConfig};
 ghost use Rattle.papergrid_config.specs.Grids.{spanned_grid};
@@ -14,8 +14,12 @@ ghost use Rattle.papergrid_text.specs.Records.{TellsRows};
 
 use papergrid_config::laws::history_decides;
 use papergrid_config::{Setting, SpannedConfig};
-use papergrid_layout::{Estimate, IterGridDimension, LayoutError, LeastGridDimension};
+use papergrid_layout::{
+    Estimate, GridDimension, IterGridDimension, LayoutError, LeastGridDimension,
+};
 use papergrid_text::{IntoRecords, Records};
+use papergrid_tracks::Solver;
+use papergrid_walk::measure::ByLines;
 use std::alloc::{AllocError, Global};
 use std::convert::AsStr;
 
@@ -50,8 +54,7 @@ where
         IsLaidOut (spanned_grid config) (line_measure R.Iter.Cell.text)
         (R.columns records) cells sizings.ByShares result)) }
 {
-    let config = configuration(alloc, settings)?;
-    laid_out(IterGridDimension::new(alloc), records, &config)
+    laid_out(alloc, settings, records)
 }
 
 /// The same with the least widths and heights, whatever spans cross: no widths with room for each visible cell have
@@ -84,21 +87,31 @@ where
         IsLaidOut (spanned_grid config) (line_measure R.Iter.Cell.text)
         (R.columns records) cells sizings.Least result)) }
 {
-    let config = configuration(alloc, settings)?;
-    laid_out(LeastGridDimension::new(alloc), records, &config)
+    laid_out(alloc, settings, records)
 }
 
-/// A dimension with the sizes of the records by a configuration. Condition: it accepts the records.
-fn laid_out<D: Estimate<R, SpannedConfig> + Drop, R>(
-    mut dimension: D,
+/// The same with the sizes that `T` finds.
+fn laid_out<T: Solver, R: Records + Drop>(
+    alloc: Global,
+    settings: Vec<Setting>,
     records: R,
-    config: &SpannedConfig,
-) -> Result<D, LayoutError>
-    requires { D.accepts records }
-    ensures ok { IfOk result (λ made. D.is_estimate made records config.now) }
-    ensures err { IfErr result (λ error. D.is_refused dimension records config.now error) }
+) -> Result<GridDimension<T, ByLines>, LayoutError>
+where
+    <<R as Records>::Iter as IntoRecords>::Cell: AsStr + Drop,
+    requires lawful { R.is_lawful records }
+    requires in_range { All (λ setting. is_in_range setting ≡ true) settings.items }
+    ensures sizes { UnlessMemory result (TellsRows R.tells records (λ cells.
+        IsLaidOut (grid_of settings.items) (line_measure R.Iter.Cell.text)
+        (R.columns records) cells T.sizing result)) }
+    ensures settings { UnlessMemory result ((config : SpannedConfig)
+        × IsConfiguredBy settings.items config
+        × TellsRows R.tells records (λ cells.
+        IsLaidOut (spanned_grid config) (line_measure R.Iter.Cell.text)
+        (R.columns records) cells T.sizing result)) }
 {
-    dimension.estimate(records, config)?;
+    let config = configuration(alloc, settings)?;
+    let mut dimension = GridDimension::new(alloc);
+    dimension.estimate(records, &config)?;
     Ok(dimension)
 }
 

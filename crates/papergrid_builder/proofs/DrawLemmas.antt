@@ -18,7 +18,6 @@ use Rattle.papergrid_maps.specs.Grids.{Grid}
 use Rattle.papergrid_tracks.specs.Problem.{Problem}
 use Rattle.papergrid_layout.proofs.Told.{problem_told}
 use Rattle.papergrid_layout.proofs.TotalLemmas.{room-of}
-use Rattle.papergrid_text.proofs.RowSteps.{told_by}
 use Rattle.papergrid_tracks.specs.declared.error.LayoutError.{LayoutError}
 use Rattle.papergrid_tracks.specs.declared.error.LayoutError.TheVariants as layout_errors
 use Rattle.papergrid_tracks.specs.declared.solution.Solved.{Solved}
@@ -30,7 +29,6 @@ use Rattle.papergrid_config.specs.Laws.{IsConfiguredBy}
 use Rattle.papergrid_draw.specs.declared.error.DrawError.{DrawError}
 use Rattle.papergrid_draw.specs.declared.error.DrawError.TheVariants as draw_errors
 use Rattle.papergrid_draw.specs.Pictures.{IsDrawingWith, IsFaultWith, Unsized}
-use Rattle.papergrid_draw.proofs.PictureLemmas.{drawing-with, no-sizes-seen, sizes-seen}
 use Rattle.papergrid_builder.specs.Errors.{layout_refusal}
 use Rattle.papergrid_builder.specs.Layouts.{AreFoundSizes, IsNoFoundTable, parts_found, totals_of}
 use Rattle.papergrid_builder.specs.Pictures.{IsDrawingOf, IsNotDrawn}
@@ -55,26 +53,6 @@ module _ {A : Type 0} (view : A → List ℕ) (config : SpannedConfig) (sizing :
     widths = subst (λ problem. IsSolutionBy sizing problem (solution_of found.columns)) (along Columns) are.widths;
     heights = subst (λ problem. IsSolutionBy sizing problem (solution_of found.rows)) (along Rows) are.heights;
   }
-
-  -- why there are none
-  pub no-sizes : (e : LayoutError) → IsBothRefused (spanned_grid config) (λ x. text_measure (view x)) columns cells sizing e →
-      IsBothRefused (spanned_grid config) text_measure (longest rows) rows sizing e
-  no-sizes e are = subst (λ n. IsBothRefused (spanned_grid config) text_measure n rows sizing e) counted (no-sizes-seen view config columns cells rows same sizing e are)
-
--- the drawing of rows of texts that are lent, by a table of them
-module _ (config : SpannedConfig) (sizing : Sizing) (lent : List (Bor (List (Bor (List ℕ))))) (table : TableParts) where
-  abbrev pub drawing-lent : Drawing
-  drawing-lent = drawn_of (λ rows. lines_at text_lines (map (λ row. texts_lent row.now) rows)) (λ _ _. None) table lent
-
-  pub is-drawing : (columns : ℕ) (cells : List (List (Bor (Bor (List ℕ))))) → columns ≡ longest (rows_lent lent) →
-      map (map (λ cell. cell.now)) cells ≡ map (λ row. row.now) lent → IsTableOf config (λ cell. text_measure cell.now.now) columns cells sizing (Ok table) →
-      IsDrawingWith (longest (rows_lent lent)) (rows_lent lent) sizing config drawing-lent
-  is-drawing columns cells counted told is =
-      let texts = rows_lent lent in
-      let same = told_by (λ cell. cell.now) (λ text. text.now) (λ row. row.now) cells lent told in
-      let sized = subst (λ n. AreBothSizes (spanned_grid config) text_measure n texts sizing table.widths table.heights) counted
-      (sizes-seen (λ cell. cell.now.now) config columns cells texts same sizing table.widths table.heights is.1) in
-      drawing-with (λ row. texts_lent row.now) table config (longest texts) sizing lent lent is.0 refl sized
 
 module _ (config : SpannedConfig) (rows : List (List (List ℕ))) (sizing : Sizing) where
   pub unfound-unsized : (e : LayoutError) → UnlessMemoryError e (IsBothRefused (spanned_grid config) text_measure (longest rows) rows sizing e) → IsUnfound config rows sizing (layout_refusal e)

@@ -15,10 +15,11 @@ use Rattle.papergrid_walk.specs.Cells.{problem_of}
 use Rattle.papergrid_layout.specs.Answers.{AreBothSizes, IsBothRefused}
 use Rattle.papergrid_layout.specs.Laws.{RowHasCell}
 use Rattle.papergrid_tracks.specs.declared.sizing.Sizing.{Sizing}
+use Rattle.papergrid_text.proofs.RowSteps.{told_by}
 use Rattle.papergrid_layout.proofs.Told.{both_refused_told, both_told}
 use Rattle.papergrid_layout.proofs.TotalLemmas.{room-of}
 use Rattle.papergrid_layout.specs.Answers.{UnlessMemoryError}
-use Rattle.papergrid_layout.specs.Tables.{TableParts}
+use Rattle.papergrid_layout.specs.Tables.{IsTableOf, TableParts}
 use Rattle.papergrid_draw.specs.Contents.{lines_of}
 use Rattle.papergrid_draw.specs.Drawings.{Drawing, drawn_of}
 use Rattle.papergrid_draw.specs.Errors.{draw_error_of}
@@ -34,18 +35,6 @@ use Rattle.papergrid_draw.specs.Pictures.{IsDrawingBy, IsDrawingWith, IsFaultWit
 use Rattle.papergrid_text.specs.Transfer.{IsTaken}
 use Rattle.papergrid_draw.specs.Sinks.{IsCutOff, IsRefusal, IsUndrawn, WritesPicture}
 use Rattle.papergrid_draw.proofs.SinkLemmas.{draws-none, draws-so}
-
-module _ {A : Type 0} (view : A → List ℕ) (config : SpannedConfig) (columns : ℕ) (cells : List (List A)) (texts : List (List (List ℕ)))
-    (same : map (map view) cells ≡ texts) where
-  -- sizes that are chosen so
-  pub sizes-seen : (sizing : Sizing) (widths heights : List ℕ) → AreBothSizes (spanned_grid config) (λ x. text_measure (view x)) columns cells sizing widths heights →
-      AreBothSizes (spanned_grid config) text_measure columns texts sizing widths heights
-  sizes-seen sizing widths heights are = both_told (spanned_grid config) view text_measure cells texts same columns (AreSizesBy sizing) widths heights are
-
-  -- why there are none
-  pub no-sizes-seen : (sizing : Sizing) (e : LayoutError) → IsBothRefused (spanned_grid config) (λ x. text_measure (view x)) columns cells sizing e →
-      IsBothRefused (spanned_grid config) text_measure columns texts sizing e
-  no-sizes-seen sizing e is = both_refused_told (spanned_grid config) view text_measure cells texts same columns sizing e is
 
 -- the lines at a position are those of the text that the rows have there
 pub lines-of-rows : (texts : List (List (List ℕ))) (p : Position) → AreLinesAt (λ text. text) texts p (lines_at text_lines texts p)
@@ -71,16 +60,38 @@ unless-also (layout_errors.OutOfTable p) follows is = follows is
 unless-also layout_errors.TooLarge follows is = follows is
 unless-also (layout_errors.Memory e) follows is = tt
 
--- the drawing of rows of texts that are lent, by a table of such sizes
-pub drawing-with : {R : Type 0} (texts : R → List (List ℕ)) (parts : TableParts) (config : SpannedConfig) (columns : ℕ) (sizing : Sizing) (lent held : List R) →
-    parts.config ≡ config → lent ≡ held → AreBothSizes (spanned_grid config) text_measure columns (map texts held) sizing parts.widths parts.heights →
-    IsDrawingWith columns (map texts held) sizing config (drawn_of (λ rows. lines_at text_lines (map texts rows)) (λ _ _. None) parts lent)
-drawing-with texts parts config columns sizing lent held same_config same_rows sized = record {
-  widths = parts.widths;
-  heights = parts.heights;
-  sized = sized;
-  is = λ i. texts_drawing (same_config i) (map texts (same_rows i)) parts.widths parts.heights;
-}
+-- rows of texts, as records of so many columns tell them: each cell is seen as one of a row
+module _ {A B R : Type 0} (seen : A → B) (text : B → List ℕ) (items : R → List B) (config : SpannedConfig) (sizing : Sizing)
+    {many columns : ℕ} (counted : many ≡ columns) {given rows : List R} (same : given ≡ rows) where
+  abbrev row_texts : R → List (List ℕ)
+  row_texts row = map text (items row)
+
+  -- the table that is made of them, or why there is none
+  abbrev TellTable : Result TableParts LayoutError → Type 0
+  TellTable result = (cells : List (List A)) × (map (map seen) cells ≡ map items given) × IsTableOf config (λ x. text_measure (text (seen x))) many cells sizing result
+
+  texts-told : (cells : List (List A)) → map (map seen) cells ≡ map items given → map (map (λ x. text (seen x))) cells ≡ map row_texts rows
+  texts-told cells told = told_by seen text items cells given told ∙ ap (map row_texts) same
+
+  -- its sizes are those of the texts
+  pub sizes-told : (parts : TableParts) → TellTable (Ok parts) → AreBothSizes (spanned_grid config) text_measure columns (map row_texts rows) sizing parts.widths parts.heights
+  sizes-told parts told = subst (λ n. AreBothSizes (spanned_grid config) text_measure n (map row_texts rows) sizing parts.widths parts.heights) counted
+      (both_told (spanned_grid config) (λ x. text (seen x)) text_measure told.0 (map row_texts rows) (texts-told told.0 told.1) many (AreSizesBy sizing) parts.widths parts.heights told.2.1)
+
+  -- there are none for them
+  pub refusal-told : (e : LayoutError) → UnlessMemoryError e (TellTable (Err e)) → UnlessMemoryError e (IsBothRefused (spanned_grid config) text_measure columns (map row_texts rows) sizing e)
+  refusal-told e = unless-also e (λ told. subst (λ n. IsBothRefused (spanned_grid config) text_measure n (map row_texts rows) sizing e) counted
+      (both_refused_told (spanned_grid config) (λ x. text (seen x)) text_measure told.0 (map row_texts rows) (texts-told told.0 told.1) many sizing e told.2))
+
+  -- what is drawn of the rows by it is their drawing
+  pub drawing-told : (parts : TableParts) → TellTable (Ok parts) → (lent : List R) → lent ≡ rows →
+      IsDrawingWith columns (map row_texts rows) sizing config (drawn_of (λ held. lines_at text_lines (map row_texts held)) (λ _ _. None) parts lent)
+  drawing-told parts told lent held = record {
+    widths = parts.widths;
+    heights = parts.heights;
+    sized = sizes-told parts told;
+    is = λ i. texts_drawing (told.2.0 i) (map row_texts (held i)) parts.widths parts.heights;
+  }
 
 -- so each visible cell has room in a drawing with them, whatever the colours are
 pub room-in : (config : SpannedConfig) (columns : ℕ) (texts : List (List (List ℕ))) (sizing : Sizing) (widths heights : List ℕ) (color : Position → Option (List ℕ × List ℕ)) →

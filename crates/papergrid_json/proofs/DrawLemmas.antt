@@ -15,11 +15,10 @@ use Rattle.papergrid_draw.specs.Faults.{AllHaveRoom}
 use Rattle.papergrid_draw.specs.declared.error.DrawError.{DrawError}
 use Rattle.papergrid_draw.specs.declared.error.DrawError.TheVariants as draw_errors
 use Rattle.papergrid_draw.specs.Cells.{lines_at, text_lines}
-use Rattle.papergrid_text.proofs.RowSteps.{told_by}
 use Rattle.papergrid_walk.specs.Measures.{text_measure}
 use Rattle.papergrid_config.specs.Laws.{IsConfiguredBy}
 use Rattle.papergrid_draw.specs.Sinks.{IsRefusal}
-use Rattle.papergrid_draw.proofs.PictureLemmas.{no-sizes-seen, room-in, sizes-seen}
+use Rattle.papergrid_draw.proofs.PictureLemmas.{refusal-told, room-in, sizes-told, unless-also}
 use Rattle.papergrid_json.specs.Pictures.{AreNoSizesOf, AreSizesOf, IsDocumentDrawing, IsDocumentFault, IsDocumentTable, IsDocumentDrawingWith, IsDocumentFaultWith, Unsized, document_texts}
 use Rattle.papergrid_json.specs.declared.document.Document.{Document}
 use Rattle.papergrid_json.specs.declared.document.OwnSizes.{OwnSizes}
@@ -55,23 +54,9 @@ module _ (document : Document) (sizing : Sizing) (config : SpannedConfig) where
       UnlessMemory result ((cells : List (List A)) × (map (map view) cells ≡ map (λ row. row.items) rows)
       × IsTableOf config (λ x. text_measure (string_bytes (view x))) columns cells sizing result) → UnlessMemory result (IsDocumentTable document sizing config result)
   table-found view rows columns (Ok table) none same counted so =
-      let texts = told_by view string_bytes (λ row. row.items) so.0 rows so.1 ∙ ap (map (λ row. map string_bytes row.items)) same in
-      let sized = sizes-seen (λ x. string_bytes (view x)) config columns so.0 (document_texts document) texts sizing table.widths table.heights so.2.1 in (
-        so.2.0,
-        subst (λ s. AreSizesOf document sizing config s table.widths table.heights) (sym none)
-            (subst (λ n. AreBothSizes (spanned_grid config) text_measure n (document_texts document) sizing table.widths table.heights) counted sized),
-      )
-  table-found view rows columns (Err (layout_errors.OutOfTable p)) none same counted so =
-      let texts = told_by view string_bytes (λ row. row.items) so.0 rows so.1 ∙ ap (map (λ row. map string_bytes row.items)) same in
-      let unsized = no-sizes-seen (λ x. string_bytes (view x)) config columns so.0 (document_texts document) texts sizing (layout_errors.OutOfTable p) so.2 in
-      subst (λ s. AreNoSizesOf document sizing config s (layout_errors.OutOfTable p)) (sym none)
-      (subst (λ n. IsBothRefused (spanned_grid config) text_measure n (document_texts document) sizing (layout_errors.OutOfTable p)) counted unsized)
-  table-found view rows columns (Err layout_errors.TooLarge) none same counted so =
-      let texts = told_by view string_bytes (λ row. row.items) so.0 rows so.1 ∙ ap (map (λ row. map string_bytes row.items)) same in
-      let unsized = no-sizes-seen (λ x. string_bytes (view x)) config columns so.0 (document_texts document) texts sizing layout_errors.TooLarge so.2 in
-      subst (λ s. AreNoSizesOf document sizing config s layout_errors.TooLarge) (sym none)
-      (subst (λ n. IsBothRefused (spanned_grid config) text_measure n (document_texts document) sizing layout_errors.TooLarge) counted unsized)
-  table-found view rows columns (Err (layout_errors.Memory e)) none same counted so = tt
+      (so.2.0, subst (λ s. AreSizesOf document sizing config s table.widths table.heights) (sym none) (sizes-told view string_bytes (λ row. row.items) config sizing counted same table so))
+  table-found view rows columns (Err e) none same counted so =
+      unless-also e (subst (λ s. AreNoSizesOf document sizing config s e) (sym none)) (refusal-told view string_bytes (λ row. row.items) config sizing counted same e so)
 
   -- what is drawn of rows that are lent, by a table
   abbrev pub rows_drawn : List (Vec (String Global) Global) → TableParts → Drawing

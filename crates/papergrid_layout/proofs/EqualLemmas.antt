@@ -46,7 +46,7 @@ same-place x y = (
       (and_from _ _ (nat_eq_equiv.refl x.left) (and_from _ _ (nat_eq_equiv.refl x.top) (and_from _ _ (nat_eq_equiv.refl x.width) (nat_eq_equiv.refl x.height)))),
 )
 
-same-position : (x y : Position) → (position.ghosts.eq x y ≡ true) ↔ (x ≡ y)
+pub same-position : (x y : Position) → (position.ghosts.eq x y ≡ true) ↔ (x ≡ y)
 same-position x y = (
   λ is.
       let parts = and_parts (nat_eq x.row y.row) _ is in

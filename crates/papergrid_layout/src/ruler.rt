@@ -3,10 +3,9 @@
 ghost use Rattle.std.specs.Prelude.{◌≡◌, ◌+◌, ◌<◌, ◌≤◌, ◌^◌, ◌⊎◌, ℕ, IfOk, MatchOption, cond, nat_lt};
 ghost use Rattle.std.specs.Option.{SomeIff};
 ghost use Rattle.papergrid_values.specs.Positions.{along};
-ghost use Rattle.papergrid_layout.specs.Places.{extent, offset, size_along, total};
+ghost use Rattle.papergrid_layout.specs.Places.{extent, offset, total};
 ghost use Rattle.papergrid_layout.specs.Tables.{HasSizes};
 ghost use Rattle.papergrid_layout.specs.ForProofs.Placing.{AreMarks};
-ghost use Rattle.papergrid_layout.specs.ForProofs.Rulers.{has_along};
 
 use crate::dimension::Dimension;
 use crate::marks::Marks;
@@ -25,13 +24,12 @@ pub struct Ruler<'a, D, S> {
 }
 
 impl<'a, D: Dimension, S: ConfigView> Ruler<'a, D, S> {
+    ghost use Rattle.papergrid_layout.specs.ForProofs.Rulers.{HasTracks, has_track, ruler_line, ruler_size};
+
     /// The width of a column, or the height of a row.
     fn size(&self, i: usize) -> usize
-        requires { has_along (D.has_column self.now.dimension.now)
-            (D.has_row self.now.dimension.now) self.now.direction i }
-        ensures { result ≡ size_along (D.width_of self.now.dimension.now)
-            (D.height_of self.now.dimension.now)
-            self.now.direction i }
+        requires { has_track D.has_column D.has_row self.now i }
+        ensures { result ≡ ruler_size D.width_of D.height_of self.now i }
     {
         match self.direction {
             Direction::Columns => self.dimension.get_width(i),
@@ -41,9 +39,7 @@ impl<'a, D: Dimension, S: ConfigView> Ruler<'a, D, S> {
 
     /// What the line at `i` takes: 1 where it is drawn.
     fn line(&self, i: usize) -> usize
-        ensures { let line = (S.grid self.now.settings.now).draws self.now.direction self.now.count
-            in
-            result ≡ cond (line i) 1 0 }
+        ensures { result ≡ cond (ruler_line S.grid self.now i) 1 0 }
     {
         if self.settings.has_line(self.direction, self.count, i) {
             1
@@ -55,15 +51,12 @@ impl<'a, D: Dimension, S: ConfigView> Ruler<'a, D, S> {
     /// Where track `end` begins, if that fits, from where an earlier one begins.
     fn offset_from(&self, start: usize, from: usize, end: usize) -> Option<usize>
         requires order { start ≤ end }
-        requires sizes { HasSizes (has_along (D.has_column self.now.dimension.now)
-            (D.has_row self.now.dimension.now) self.now.direction) end }
-        requires from { let size = size_along (D.width_of self.now.dimension.now)
-            (D.height_of self.now.dimension.now) self.now.direction in
-            let line = (S.grid self.now.settings.now).draws self.now.direction self.now.count in
+        requires sizes { HasSizes (has_track D.has_column D.has_row self.now) end }
+        requires from { let size = ruler_size D.width_of D.height_of self.now in
+            let line = ruler_line S.grid self.now in
             from ≡ offset size line start }
-        ensures { let size = size_along (D.width_of self.now.dimension.now)
-            (D.height_of self.now.dimension.now) self.now.direction in
-            let line = (S.grid self.now.settings.now).draws self.now.direction self.now.count in
+        ensures { let size = ruler_size D.width_of D.height_of self.now in
+            let line = ruler_line S.grid self.now in
             let found = offset size line end in
             SomeIff result (found < 2 ^ 64) found }
     {
@@ -90,11 +83,9 @@ impl<'a, D: Dimension, S: ConfigView> Ruler<'a, D, S> {
         requires inside { let grid = S.grid self.now.settings.now in
             let span = grid.span self.now.direction position in
             along self.now.direction position + span ≤ self.now.count }
-        requires sizes { HasSizes (has_along (D.has_column self.now.dimension.now)
-            (D.has_row self.now.dimension.now) self.now.direction) self.now.count }
-        ensures { let size = size_along (D.width_of self.now.dimension.now)
-            (D.height_of self.now.dimension.now) self.now.direction in
-            let line = (S.grid self.now.settings.now).draws self.now.direction self.now.count in
+        requires sizes { HasTracks D.has_column D.has_row self.now }
+        ensures { let size = ruler_size D.width_of D.height_of self.now in
+            let line = ruler_line S.grid self.now in
             let start = along self.now.direction position in
             let span = (S.grid self.now.settings.now).span self.now.direction position in
             SomeIff result (total size line self.now.count < 2 ^ 64)
@@ -111,11 +102,9 @@ impl<'a, D: Dimension, S: ConfigView> Ruler<'a, D, S> {
 
     /// The total of all sizes and lines, if it fits.
     pub fn total(&self) -> Option<usize>
-        requires { HasSizes (has_along (D.has_column self.now.dimension.now)
-            (D.has_row self.now.dimension.now) self.now.direction) self.now.count }
-        ensures { let size = size_along (D.width_of self.now.dimension.now)
-            (D.height_of self.now.dimension.now) self.now.direction in
-            let line = (S.grid self.now.settings.now).draws self.now.direction self.now.count in
+        requires { HasTracks D.has_column D.has_row self.now }
+        ensures { let size = ruler_size D.width_of D.height_of self.now in
+            let line = ruler_line S.grid self.now in
             let found = total size line self.now.count in
             SomeIff result (found < 2 ^ 64) found }
     {
@@ -124,15 +113,12 @@ impl<'a, D: Dimension, S: ConfigView> Ruler<'a, D, S> {
 
     /// Where each track begins and ends, where the total fits.
     pub fn marks(&self, alloc: Global) -> Result<Marks, AllocError>
-        requires sizes { HasSizes (has_along (D.has_column self.now.dimension.now)
-            (D.has_row self.now.dimension.now) self.now.direction) self.now.count }
-        requires fits { let size = size_along (D.width_of self.now.dimension.now)
-            (D.height_of self.now.dimension.now) self.now.direction in
-            let line = (S.grid self.now.settings.now).draws self.now.direction self.now.count in
+        requires sizes { HasTracks D.has_column D.has_row self.now }
+        requires fits { let size = ruler_size D.width_of D.height_of self.now in
+            let line = ruler_line S.grid self.now in
             total size line self.now.count < 2 ^ 64 }
-        ensures { let size = size_along (D.width_of self.now.dimension.now)
-            (D.height_of self.now.dimension.now) self.now.direction in
-            let line = (S.grid self.now.settings.now).draws self.now.direction self.now.count in
+        ensures { let size = ruler_size D.width_of D.height_of self.now in
+            let line = ruler_line S.grid self.now in
             IfOk result (AreMarks size line self.now.count) }
     {
         let mut begins = Vec::new(alloc);
@@ -150,15 +136,12 @@ impl<'a, D: Dimension, S: ConfigView> Ruler<'a, D, S> {
     /// The track from whose begin to that of the next one a point lies, where the total fits. None
     /// where it lies before the first begin or not before the end of the table.
     pub fn number_at(&self, point: usize) -> Option<usize>
-        requires sizes { HasSizes (has_along (D.has_column self.now.dimension.now)
-            (D.has_row self.now.dimension.now) self.now.direction) self.now.count }
-        requires fits { let size = size_along (D.width_of self.now.dimension.now)
-            (D.height_of self.now.dimension.now) self.now.direction in
-            let line = (S.grid self.now.settings.now).draws self.now.direction self.now.count in
+        requires sizes { HasTracks D.has_column D.has_row self.now }
+        requires fits { let size = ruler_size D.width_of D.height_of self.now in
+            let line = ruler_line S.grid self.now in
             total size line self.now.count < 2 ^ 64 }
-        ensures { let size = size_along (D.width_of self.now.dimension.now)
-            (D.height_of self.now.dimension.now) self.now.direction in
-            let line = (S.grid self.now.settings.now).draws self.now.direction self.now.count in
+        ensures { let size = ruler_size D.width_of D.height_of self.now in
+            let line = ruler_line S.grid self.now in
             MatchOption result ((point < offset size line 0)
             ⊎ (offset size line self.now.count ≤ point))
             (λ i. (i < self.now.count) × (offset size line i ≤ point)

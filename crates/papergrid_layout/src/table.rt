@@ -1,6 +1,6 @@
 //! A table as one value: a configuration with the sizes of its columns and rows.
 
-ghost use Rattle.std.specs.Prelude.{◌≡◌, ◌+◌, ◌<◌, ◌≤◌, ◌↔◌, ◌⊎◌, ◌^◌, ◌&&◌, [], All, IfErr, IfOk, IsTrue, MatchResult, length, nat_le};
+ghost use Rattle.std.specs.Prelude.{◌≡◌, ◌+◌, ◌<◌, ◌≤◌, ◌↔◌, ◌⊎◌, ◌^◌, ◌&&◌, [], All, IfErr, IfOk, IsTrue, MatchOption, MatchResult, None, length, nat_le};
 ghost use Rattle.std.specs.Option.{SomeIff};
 ghost use Rattle.std.specs.Result.{IsOkAnd};
 ghost use Rattle.papergrid_values.specs.declared.direction.Direction.{Direction};
@@ -11,6 +11,7 @@ ghost use Rattle.papergrid_layout.specs.Answers.{UnlessMemory, UnlessMemoryError
 ghost use Rattle.papergrid_layout.specs.Places.{EndsWithin, HaveAllPlaces, IsFirstOver, IsTrackAt, StandsOver, place_at, sized_table, total_along, track_count, track_line, track_size};
 ghost use Rattle.papergrid_layout.specs.Tables.{AreNotPlacedIn, IsPlacedIn, IsTable, IsTableOf, line_position, view_of};
 ghost use Rattle.papergrid_layout.specs.ForProofs.Placing.{AreMarks};
+ghost use Rattle.papergrid_layout.specs.ForProofs.Points.{LiesInEach};
 ghost use Rattle.papergrid_layout.specs.ForProofs.Tables.{IsMeasuredAlong};
 ghost use Rattle.papergrid_text.specs.Records.{TellsRows};
 
@@ -235,6 +236,22 @@ impl<'a> Table<'a> {
         }
     }
 
+    /// The column and the row around a point: the rectangle of each cell that stands over it has them.
+    #[inline(always)]
+    fn position_around(&self, column: usize, line: usize) -> Option<Position>
+        ensures { let table = view_of self.now in
+            MatchOption result (IsFirstOver table column line None)
+            (LiesInEach table column line) }
+    {
+        if column >= self.totals.columns || line >= self.totals.rows {
+            return None;
+        }
+        Some(Position {
+            row: self.marks.rows.track_before(line)?,
+            col: self.marks.columns.track_before(column)?,
+        })
+    }
+
     /// The position of the cell at a column of the terminal in a line, both counted from the left
     /// edge and the top of the table: that of the first cell, by row and then by column, whose
     /// screen rectangle covers the point. None on a line of the table over which no such screen
@@ -243,13 +260,7 @@ impl<'a> Table<'a> {
     pub fn cell_at(&self, column: usize, line: usize) -> Option<Position>
         ensures { IsFirstOver (view_of self.now) column line result }
     {
-        if column >= self.totals.columns || line >= self.totals.rows {
-            return None;
-        }
-        let within = Position {
-            row: self.marks.rows.track_before(line)?,
-            col: self.marks.columns.track_before(column)?,
-        };
+        let within = self.position_around(column, line)?;
         if self.config.is_visible(within) {
             return self.stands_over(within, column, line).then_some(within);
         }

@@ -14,7 +14,7 @@ use Rattle.papergrid_tracks.specs.declared.sizing.Sizing.{Sizing}
 use Rattle.papergrid_tracks.specs.declared.sizing.Sizing.TheVariants.{ByShares, Least}
 use Rattle.papergrid_tracks.specs.Fits.{Fits, IsTooLarge}
 use Rattle.papergrid_tracks.specs.ForProofs.Demands.{AreGathered, StandInOrder, no_demand}
-use Rattle.papergrid_tracks.specs.ForProofs.Settled.{line_at}
+use Rattle.papergrid_tracks.specs.ForProofs.Settled.{IsBegun, line_at}
 use Rattle.papergrid_tracks.specs.Problem.{Problem, problem_of_demands, total_of}
 use Rattle.papergrid_tracks.specs.Ranges.{IsInTable, first_out}
 use Rattle.papergrid_tracks.specs.Sizes.{base_sizes, grown_sizes, sizes_of, by_span}
@@ -54,36 +54,37 @@ between-same n f g same =
         let c : f k ≡ g k = same k (omega arith) in
         omega arith
 
-module _ (line : ℕ → Bool) (n : ℕ) (kept : Demands) (demands : List Demand) (is_kept : AreGathered n kept demands) (inside : first_out n kept.rest.items ≡ None) (small : kept.is_large ≡ false)
-    (drawn : ℕ → Bool) (agree : (i : ℕ) → i ≤ n → drawn i ≡ line i)
-    (base : List ℕ) (many : length base ≡ n) (written : (k : ℕ) → k < length base → get_or base k 0 ≡ (get_or kept.single_span.items k no_demand).minimum) where
+module _ {line : ℕ → Bool} {n : ℕ} {kept : Demands} {demands : List Demand} (is_kept : AreGathered n kept demands) {lines : List Bool} {base : List ℕ} (begun : IsBegun line n kept lines base) where
+  abbrev drawn : ℕ → Bool
+  drawn = line_at lines
+
   table : All (IsInTable n) demands
-  table = table_demands n kept demands is_kept inside
+  table = table_demands n kept demands is_kept begun.inside
 
   base_is : base ≡ base_sizes n demands
-  base_is = base-kept n kept demands is_kept small base many written
+  base_is = base-kept n kept demands is_kept begun.small base begun.many begun.base_at
 
   abbrev asking : List Demand
   asking = map (with_net_minimum (net_minimum drawn)) kept.rest.items
 
-  asking_are : asking ≡ longer_asking line drawn n is_kept.limit demands agree table is_kept.below base base_is many
-  asking_are = ap (map (with_net_minimum (net_minimum drawn))) (is_kept.held.exact small)
+  asking_are : asking ≡ longer_asking line drawn n is_kept.limit demands begun.drawn table is_kept.below base base_is begun.many
+  asking_are = ap (map (with_net_minimum (net_minimum drawn))) (is_kept.held.exact begun.small)
 
   all_drawn : all_lines drawn n ≡ all_lines line n
-  all_drawn = lines-drawn drawn line n agree
+  all_drawn = lines-drawn drawn line n begun.drawn
 
   past : ((boundary : ℕ → ℕ) → AreLaid base asking boundary → 18446744073709551616 ≤ boundary (length base) + all_lines drawn (length base)) → AreLeastTooLarge (problem_of_demands line n demands)
-  past large = AreLeastTooLarge-by_all (problem_of_demands line n demands) table (out_kept n kept demands is_kept ∙ inside) each
+  past large = AreLeastTooLarge-by_all (problem_of_demands line n demands) table (out_kept n kept demands is_kept ∙ begun.inside) each
     where
       each : (other : List ℕ) → Fits (problem_of_demands line n demands) other → IsTooLarge (problem_of_demands line n demands) other
       each other fits =
           let laid : AreLaid base asking (boundaries_of other) =
           subst (λ cells. AreLaid base cells (boundaries_of other)) (sym asking_are)
-          (AreLaid-from_boundaries line drawn n is_kept.limit demands agree table is_kept.below base base_is many (boundaries_of other) (AreBoundaries-boundaries_of line n demands other fits)) in
+          (AreLaid-from_boundaries line drawn n is_kept.limit demands begun.drawn table is_kept.below base base_is begun.many (boundaries_of other) (AreBoundaries-boundaries_of line n demands other fits)) in
           let l : 18446744073709551616 ≤ boundaries_of other (length base) + all_lines drawn (length base) = large (boundaries_of other) laid in
-          let a : boundaries_of other (length base) ≡ boundaries_of other n = ap (boundaries_of other) many in
+          let a : boundaries_of other (length base) ≡ boundaries_of other n = ap (boundaries_of other) begun.many in
           let b : sum (take n other) ≡ sum other = ap sum (take_whole n other fits.one_each) in
-          let c : all_lines drawn (length base) ≡ all_lines drawn n = ap (all_lines drawn) many in
+          let c : all_lines drawn (length base) ≡ all_lines drawn n = ap (all_lines drawn) begun.many in
           let d : all_lines drawn n ≡ all_lines line n = all_drawn in
           let all : 18446744073709551616 ≤ sum other + all_lines line n = omega arith in
           all
@@ -94,31 +95,31 @@ module _ (line : ℕ → Bool) (n : ℕ) (kept : Demands) (demands : List Demand
   IsRefused-refuses (Memory e) refused = tt
 
   module _ (limits : Limits) (are : AreLimits drawn base asking limits) where
-    lowest_position-asking : AreLowestBoundaries base (longer_asking line drawn n is_kept.limit demands agree table is_kept.below base base_is many) limits.lowest_position.items
+    lowest_position-asking : AreLowestBoundaries base (longer_asking line drawn n is_kept.limit demands begun.drawn table is_kept.below base base_is begun.many) limits.lowest_position.items
     lowest_position-asking = subst (λ cells. AreLowestBoundaries base cells limits.lowest_position.items) asking_are are.lowest_position
 
     total_is : get_or limits.lowest_position.items (length base) 0 ≡ lowest_position (net_minimum line) demands n
     total_is =
-        ap (λ k. get_or limits.lowest_position.items k 0) many
-        ∙ lowest_position-is line drawn n is_kept.limit demands agree table is_kept.below base base_is many limits.lowest_position.items lowest_position-asking n (omega arith)
+        ap (λ k. get_or limits.lowest_position.items k 0) begun.many
+        ∙ lowest_position-is line drawn n is_kept.limit demands begun.drawn table is_kept.below base base_is begun.many limits.lowest_position.items lowest_position-asking n (omega arith)
 
     highest_at : (i : ℕ) → i ≤ n → get_or limits.highest_position.items i 0 ≡ highest_position (net_minimum line) n demands i
     highest_at =
-        highest_position-is line drawn n is_kept.limit demands agree table is_kept.below base base_is many limits.highest_position.items (get_or limits.lowest_position.items (length base) 0) total_is
+        highest_position-is line drawn n is_kept.limit demands begun.drawn table is_kept.below base base_is begun.many limits.highest_position.items (get_or limits.lowest_position.items (length base) 0) total_is
         (subst (λ cells. AreHighestBoundaries base cells (get_or limits.lowest_position.items (length base) 0) limits.highest_position.items) asking_are are.highest_position)
 
     shares : fold (grown_sizes drawn) base (by_span (length base) kept.rest.items) ≡ sizes_of (problem_of_demands line n demands)
     shares =
-        ap (λ k. fold (grown_sizes drawn) base (by_span k kept.rest.items)) many
-        ∙ ap (fold (grown_sizes drawn) base) (by_span-kept n kept demands is_kept small)
+        ap (λ k. fold (grown_sizes drawn) base (by_span k kept.rest.items)) begun.many
+        ∙ ap (fold (grown_sizes drawn) base) (by_span-kept n kept demands is_kept begun.small)
         ∙ ap (λ xs. fold (grown_sizes drawn) xs (by_span n demands)) base_is
-        ∙ sizes-drawn drawn line n agree demands table
+        ∙ sizes-drawn drawn line n begun.drawn demands table
 
     exact : (sizes : List ℕ) → sizes ≡ sizes_between (length base) (λ i. min (boundaries_of (fold (grown_sizes drawn) base (by_span (length base) kept.rest.items)) i) (get_or limits.highest_position.items i 0)) →
         sizes ≡ least_of (problem_of_demands line n demands)
     exact sizes e =
         e
-        ∙ ap (λ k. sizes_between k (λ i. min (boundaries_of (fold (grown_sizes drawn) base (by_span (length base) kept.rest.items)) i) (get_or limits.highest_position.items i 0))) many
+        ∙ ap (λ k. sizes_between k (λ i. min (boundaries_of (fold (grown_sizes drawn) base (by_span (length base) kept.rest.items)) i) (get_or limits.highest_position.items i 0))) begun.many
         ∙ between-same n (λ i. min (boundaries_of (fold (grown_sizes drawn) base (by_span (length base) kept.rest.items)) i) (get_or limits.highest_position.items i 0))
         (λ i. min (boundaries_of (sizes_of (problem_of_demands line n demands)) i) (highest_position (net_minimum line) n demands i)) same
       where
@@ -136,7 +137,7 @@ module _ (line : ℕ → Bool) (n : ℕ) (kept : Demands) (demands : List Demand
           let b : sum (least_of (problem_of_demands line n demands)) ≡ lowest_position (net_minimum line) demands n = total-least_of (problem_of_demands line n demands) table in
           let c : get_or limits.lowest_position.items (length base) 0 ≡ lowest_position (net_minimum line) demands n = total_is in
           let d : limits.total ≡ get_or limits.lowest_position.items (length base) 0 + all_lines drawn (length base) = are.total in
-          let f : all_lines drawn (length base) ≡ all_lines line n = ap (all_lines drawn) many ∙ all_drawn in
+          let f : all_lines drawn (length base) ≡ all_lines line n = ap (all_lines drawn) begun.many ∙ all_drawn in
           let all : limits.total ≡ sum sizes + all_lines line n = omega arith in
           all
 
@@ -146,18 +147,17 @@ module _ (line : ℕ → Bool) (n : ℕ) (kept : Demands) (demands : List Demand
       pub AreLeastSizes-made : AreLeastSizes (problem_of_demands line n demands) sizes
       AreLeastSizes-made =
           subst (AreLeastSizes (problem_of_demands line n demands)) (sym (exact sizes e))
-          (AreLeastSizes-least_of (problem_of_demands line n demands) table (out_kept n kept demands is_kept ∙ inside) fits-made)
+          (AreLeastSizes-least_of (problem_of_demands line n demands) table (out_kept n kept demands is_kept ∙ begun.inside) fits-made)
 
-      pub AreLowestPositions-made : (lines : List Bool) → length lines ≡ n + 1 → ((i : ℕ) → i ≤ n → line_at lines i ≡ line i) →
-          AreLowestPositions (problem_of_demands line n demands) lines limits.lowest_position.items
-      AreLowestPositions-made lines lined same = record {
-        none_out = out_kept n kept demands is_kept ∙ inside;
+      pub AreLowestPositions-made : AreLowestPositions (problem_of_demands line n demands) lines limits.lowest_position.items
+      AreLowestPositions-made = record {
+        none_out = out_kept n kept demands is_kept ∙ begun.inside;
         table = table;
         total = fits-made;
-        lined = lined;
-        drawn = same;
-        many = are.lowest_position.one_more ∙ ap (λ k. k + 1) many;
-        boundary_at = lowest_position-is line drawn n is_kept.limit demands agree table is_kept.below base base_is many limits.lowest_position.items lowest_position-asking;
+        lined = begun.lined;
+        drawn = begun.drawn;
+        many = are.lowest_position.one_more ∙ ap (λ k. k + 1) begun.many;
+        boundary_at = lowest_position-is line drawn n is_kept.limit demands begun.drawn table is_kept.below base base_is begun.many limits.lowest_position.items lowest_position-asking;
       }
 
 -- where the demands stand in order, these are the places that certify the sizes

@@ -13,7 +13,7 @@ use crate::demands::Demands;
 use crate::error::LayoutResult;
 use crate::least_sizes::make_least;
 use crate::lines::Lines;
-use crate::settled::{refusal, write_base};
+use crate::settled::begin;
 use crate::solution::{Solved, Solver};
 use papergrid_values::Position;
 use std::alloc::{AllocError, Global};
@@ -81,13 +81,8 @@ impl Solver for ByLeastTotal {
         axis: &A,
         certify: bool,
     ) -> LayoutResult<Solved> {
-        // A count that no memory holds is refused before it is counted up to.
-        let mut sizes = vec![in alloc; 0; count]?;
-        let lines = Lines::of(alloc, axis, count)?;
-        if let Some(error) = refusal(count, kept) {
-            return Err(error);
-        }
-        write_base(&mut sizes, &kept.single_span);
+        let (mut sizes, drawn) = begin(alloc, count, kept, axis)?;
+        let lines = Lines::of(alloc, drawn)?;
         let limits = make_least(alloc, &lines, &mut sizes, &kept.rest)?;
         let certificate = certificate_of(alloc, certify, kept, &lines, &limits.lowest_position)?;
         Ok(Solved {

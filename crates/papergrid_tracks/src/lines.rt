@@ -1,13 +1,11 @@
 //! The lines of a table along a direction, counted.
 
-ghost use Rattle.std.specs.Prelude.{IfOk, count_by, length, ℕ, ◌+◌, ◌≡◌, ◌≤◌};
+ghost use Rattle.std.specs.Prelude.{IfOk, count_by, length, ◌≡◌};
 ghost use Rattle.papergrid_tracks.specs.ForProofs.Settled.{line_at};
 ghost use Rattle.papergrid_tracks.specs.Ranges.{IsInTable, inner_lines};
 ghost use Rattle.papergrid_tracks.specs.ForProofs.Counts.{AreCountsBefore};
 
-use crate::axis::Axis;
 use crate::demand::Demand;
-use crate::settled::lines_of;
 use std::alloc::{AllocError, Global};
 use std::marker::Model;
 
@@ -48,13 +46,10 @@ fn counts_of(alloc: Global, drawn: &[bool]) -> Result<Vec<usize>, AllocError>
 }
 
 impl Lines {
-    /// The lines of the axis, of `count` tracks.
-    pub fn of<A: Axis>(alloc: Global, axis: &A, count: usize) -> Result<Lines, AllocError>
-        ensures length { IfOk result (λ lines. length lines ≡ count + 1) }
-        ensures drawn { IfOk result (λ lines. (i : ℕ) → i ≤ count →
-            line_at lines i ≡ A.line axis.now i) }
+    /// These lines.
+    pub fn of(alloc: Global, drawn: Vec<bool>) -> Result<Lines, AllocError>
+        ensures { IfOk result (λ lines. lines ≡ drawn.items) }
     {
-        let drawn = lines_of(alloc, axis, count)?;
         let counts = counts_of(alloc, &drawn)?;
         Ok(Lines { drawn, counts })
     }

@@ -1,7 +1,7 @@
 //! What the sizes along a direction begin with: the lines, the minimum sizes of single tracks, the
 //! cells in their order; and why there are none.
 
-ghost use Rattle.std.specs.Prelude.{All, Bool, EachIndex, IfNone, IfOk, IfSome, List, None, false, true, length, nat_lt, slice_index, slice_index_or, ℕ, ◌+◌, ◌≤◌, ◌≡◌};
+ghost use Rattle.std.specs.Prelude.{All, Bool, EachIndex, IfErr, IfNone, IfOk, IfSome, List, None, false, true, length, nat_lt, slice_index, slice_index_or, ℕ, ◌+◌, ◌≤◌, ◌≡◌};
 ghost use Rattle.papergrid_tracks.specs.Problem.{problem_of_demands};
 ghost use Rattle.papergrid_tracks.specs.Ranges.{IsInTable, end_of, first_out};
 ghost use Rattle.papergrid_tracks.specs.ForProofs.Demands.{AreGathered, no_demand};
@@ -11,12 +11,12 @@ ghost use Rattle.papergrid_tracks.specs.declared.demand.Demand.{Demand};
 ghost use Rattle.papergrid_tracks.specs.Sizings.{IsRefused};
 ghost use Rattle.papergrid_tracks.specs.declared.error.LayoutError.TheVariants.{TooLarge};
 ghost use Rattle.papergrid_tracks.specs.declared.sizing.Sizing.{Sizing};
-ghost use Rattle.papergrid_tracks.specs.ForProofs.Settled.{line_at};
+ghost use Rattle.papergrid_tracks.specs.ForProofs.Settled.{IsBegun, line_at};
 
 use crate::axis::Axis;
 use crate::demand::Demand;
 use crate::demands::{Demands, single_at};
-use crate::error::LayoutError;
+use crate::error::{LayoutError, LayoutResult};
 use papergrid_values::Position;
 use std::alloc::{AllocError, Global};
 
@@ -115,4 +115,34 @@ pub fn refusal(count: usize, kept: &Demands) -> Option<LayoutError>
         return Some(LayoutError::TooLarge);
     }
     None
+}
+
+/// What the sizes of `count` tracks begin with: of each track the minimum size of the cell that is
+/// kept there, and the lines.
+///
+/// # Errors
+///
+/// `OutOfTable` with the first kept cell that overflows the table, else `TooLarge` where one has a
+/// large minimum size; `Memory` in place of any answer.
+pub fn begin<A: Axis>(
+    alloc: Global,
+    count: usize,
+    kept: &Demands,
+    axis: &A,
+) -> LayoutResult<(Vec<usize>, Vec<bool>)>
+    requires { (demands : List Demand) × AreGathered count kept.now demands }
+    ensures begun { IfOk result (λ begun.
+        IsBegun (A.line axis.now) count kept.now begun.1.items begun.0.items) }
+    ensures refused { IfErr result (λ error. (sizing : Sizing) (demands : List Demand) →
+        AreGathered count kept.now demands →
+        IsRefused sizing (problem_of_demands (A.line axis.now) count demands) error) }
+{
+    // A count that no memory holds is refused before it is counted up to.
+    let mut sizes = vec![in alloc; 0; count]?;
+    let lines = lines_of(alloc, axis, count)?;
+    if let Some(error) = refusal(count, kept) {
+        return Err(error);
+    }
+    write_base(&mut sizes, &kept.single_span);
+    Ok((sizes, lines))
 }

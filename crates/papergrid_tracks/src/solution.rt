@@ -13,7 +13,7 @@ use crate::certificate::certificate_of;
 use crate::demands::Demands;
 use crate::error::{LayoutError, LayoutResult};
 use crate::growing_cells::{checked_total, grow_all};
-use crate::settled::{by_span, lines_of, refusal, write_base};
+use crate::settled::{begin, by_span};
 use papergrid_values::Position;
 use std::alloc::Global;
 
@@ -68,13 +68,7 @@ impl Solver for ByShares {
         axis: &A,
         certify: bool,
     ) -> LayoutResult<Solved> {
-        // A count that no memory holds is refused before it is counted up to.
-        let mut sizes = vec![in alloc; 0; count]?;
-        let lines = lines_of(alloc, axis, count)?;
-        if let Some(error) = refusal(count, kept) {
-            return Err(error);
-        }
-        write_base(&mut sizes, &kept.single_span);
+        let (mut sizes, lines) = begin(alloc, count, kept, axis)?;
         let cells = by_span(alloc, count, &kept.rest)?;
         let growing_cells = grow_all(alloc, &mut sizes, &lines, &cells)?;
         let Some(total) = checked_total(&sizes, &lines) else {

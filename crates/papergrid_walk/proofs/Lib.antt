@@ -7,4 +7,3 @@ pub mod Steps
 pub mod FilterLemmas
 pub mod Kept
 pub mod AnchorAt
-pub mod SideLemmas

@@ -1,7 +1,7 @@
 //! The greatest end over each column, where ranges of columns are raised: each raise and each
 //! look in time of the logarithm of the columns.
 
-ghost use Rattle.std.specs.Prelude.{◌≡◌, ℕ, ◌+◌, ◌/◌, ◌<◌, ◌≤◌, IfOk, if◌then◌else◌, length, slice_index, vec_len};
+ghost use Rattle.std.specs.Prelude.{◌&&◌, ◌==◌, ◌≡◌, ℕ, ◌+◌, ◌/◌, ◌<◌, ◌≤◌, IfOk, if◌then◌else◌, length, slice_index, vec_len};
 ghost use Rattle.papergrid_walk.specs.ForProofs.MaxTree.{end_at, HasLevels, greater, is_side, raised_end};
 
 use std::alloc::{AllocError, Global};
@@ -69,12 +69,22 @@ fn raise_sides(ends: &mut Vec<usize>, first: usize, last: usize, end: usize)
         (if is_side first last column then greater old end else old) }
 {
     if first < last {
-        if first % 2 == 1 {
-            ends[first] = greater(ends[first], end);
-        }
-        if last % 2 == 1 {
-            ends[last - 1] = greater(ends[last - 1], end);
-        }
+        raise_side(ends, first % 2 == 1, first, end);
+        raise_side(ends, last % 2 == 1, last - 1, end);
+    }
+}
+
+// Raises a column, where the pairs leave it out.
+#[inline(always)]
+fn raise_side(ends: &mut Vec<usize>, is_left_out: bool, side: usize, end: usize)
+    requires { side < vec_len ends.old }
+    ensures length { vec_len ends.new ≡ vec_len ends.old }
+    ensures side { (column : ℕ) → let old = slice_index ends.old.items column in
+        slice_index ends.new.items column ≡
+        (if is_left_out && column == side then greater old end else old) }
+{
+    if is_left_out {
+        ends[side] = greater(ends[side], end);
     }
 }
 

@@ -1,9 +1,29 @@
--- What a ruler asks of its dimension.
-use Rattle.std.specs.Prelude.{ℕ}
+-- What a ruler asks of its dimension, and what it reads of it and of its settings.
+use Rattle.std.specs.Prelude.{ℕ, Bool}
 use Rattle.papergrid_values.specs.declared.direction.Direction.{Direction}
 use Rattle.papergrid_values.specs.declared.direction.Direction.TheVariants.{Columns, Rows}
+use Rattle.papergrid_maps.specs.Grids.{Grid}
+use Rattle.papergrid_layout.specs.Places.{size_along}
+use Rattle.papergrid_layout.specs.Tables.{HasSizes}
+use Rattle.papergrid_layout.specs.declared.ruler.Ruler.{Ruler}
 
 -- there is a width for the column, or a height for the row
 abbrev pub has_along : (ℕ → Type 0) → (ℕ → Type 0) → Direction → ℕ → Type 0
 has_along columns rows Columns = columns
 has_along columns rows Rows = rows
+
+-- the dimension has a size for the track
+abbrev pub has_track : {D S : Type 0} → (D → ℕ → Type 0) → (D → ℕ → Type 0) → Ruler D S → ℕ → Type 0
+has_track has_column has_row ruler = has_along (has_column ruler.dimension.now) (has_row ruler.dimension.now) ruler.direction
+
+-- for each of them
+abbrev pub HasTracks : {D S : Type 0} → (D → ℕ → Type 0) → (D → ℕ → Type 0) → Ruler D S → Type 0
+HasTracks has_column has_row ruler = HasSizes (has_track has_column has_row ruler) ruler.count
+
+-- the size of a track
+abbrev pub ruler_size : {D S : Type 0} → (D → ℕ → ℕ) → (D → ℕ → ℕ) → Ruler D S → ℕ → ℕ
+ruler_size width_of height_of ruler = size_along (width_of ruler.dimension.now) (height_of ruler.dimension.now) ruler.direction
+
+-- whether there is a line before it, or after the last
+abbrev pub ruler_line : {D S : Type 0} → (S → Grid) → Ruler D S → ℕ → Bool
+ruler_line grid ruler = (grid ruler.settings.now).draws ruler.direction ruler.count

@@ -1,10 +1,9 @@
-use Rattle.std.proofs.Common.{◌∙◌, ap, map}
+use Rattle.std.proofs.Common.{◌∙◌, ap, refl}
 use Rattle.std.proofs.lemmas.Result.{err_from_is_err_and}
-use Rattle.papergrid_text.proofs.RowSteps.{told_by}
 use Rattle.papergrid_text.specs.HeldRows.{column_count, rows_held}
 use Rattle.papergrid_draw.specs.Margins.{printed}
 use Rattle.papergrid_draw.specs.Pictures.{texts_held}
-use Rattle.papergrid_draw.proofs.PictureLemmas.{drawing-with, drawn-so, no-sizes-seen, room-with, sizes-seen, unless-also, unsized}
+use Rattle.papergrid_draw.proofs.PictureLemmas.{drawing-told, drawn-so, refusal-told, room-with, unsized}
 use Rattle.papergrid.proofs.drawing.draw_records.Goals as goal
 
 pub returns-in_err-table : goal.returns-in_err-table
@@ -14,26 +13,19 @@ returns-in_err-table g c =
     let p = err_from_is_err_and c.from_residual.result c.from_residual.ensures.1 in
     rw (p.1, p.2)
     (unsized g.W.Sink.contents g.W.Sink.has_failed g.W.Sink.has_stalled c.args.config.now (column_count records) (texts_held g.T.AsStr.text records) c.args.sizing printed c.args.sink.now e
-    (unless-also e (λ told. no-sizes-seen (λ cell. g.T.AsStr.text cell.now) c.args.config.now (column_count records) told.0 (texts_held g.T.AsStr.text records)
-    (told_by (λ cell. cell.now) g.T.AsStr.text (λ row. row.items) told.0 (rows_held records).items told.1) c.args.sizing e told.2) c.in_err-table.ensures))
+    (refusal-told (λ cell. cell.now) g.T.AsStr.text (λ row. row.items) c.args.config.now c.args.sizing refl refl e c.in_err-table.ensures))
 
 pub draw_cells-requires : goal.draw_cells-requires
 draw_cells-requires g c = λ known.
     let records = c.args.records.now in
-    let told = c.in_ok-table.ensures in
-    let same = told_by (λ cell. cell.now) g.T.AsStr.text (λ row. row.items) told.0 (rows_held records).items told.1 in
-    let sized = sizes-seen (λ cell. g.T.AsStr.text cell.now) c.args.config.now (column_count records) told.0 (texts_held g.T.AsStr.text records) same c.args.sizing _ _ told.2.1 in
     room-with (column_count records) (texts_held g.T.AsStr.text records) c.args.sizing c.args.config.now _
-    (drawing-with (λ row. map g.T.AsStr.text row.items) c.in_ok-table.table c.args.config.now (column_count records) c.args.sizing c.as_slice.result.now (rows_held records).items
-    told.2.0 (c.as_slice.ensures.value ∙ ap (λ rows. rows.items) c.deref.ensures) sized)
+    (drawing-told (λ cell. cell.now) g.T.AsStr.text (λ row. row.items) c.args.config.now c.args.sizing refl refl c.in_ok-table.table c.in_ok-table.ensures
+    c.as_slice.result.now (c.as_slice.ensures.value ∙ ap (λ rows. rows.items) c.deref.ensures))
 
 pub returns : goal.returns
 returns g c =
     let records = c.args.records.now in
-    let told = c.in_ok-table.ensures in
-    let same = told_by (λ cell. cell.now) g.T.AsStr.text (λ row. row.items) told.0 (rows_held records).items told.1 in
-    let sized = sizes-seen (λ cell. g.T.AsStr.text cell.now) c.args.config.now (column_count records) told.0 (texts_held g.T.AsStr.text records) same c.args.sizing _ _ told.2.1 in
     drawn-so g.W.Sink.contents g.W.Sink.has_failed g.W.Sink.has_stalled c.args.config.now (column_count records) (texts_held g.T.AsStr.text records) c.args.sizing printed _
-    (drawing-with (λ row. map g.T.AsStr.text row.items) c.in_ok-table.table c.args.config.now (column_count records) c.args.sizing c.as_slice.result.now (rows_held records).items
-    told.2.0 (c.as_slice.ensures.value ∙ ap (λ rows. rows.items) c.deref.ensures) sized)
+    (drawing-told (λ cell. cell.now) g.T.AsStr.text (λ row. row.items) c.args.config.now c.args.sizing refl refl c.in_ok-table.table c.in_ok-table.ensures
+    c.as_slice.result.now (c.as_slice.ensures.value ∙ ap (λ rows. rows.items) c.deref.ensures))
     c.args.sink.now c.draw_cells.new.sink c.draw_cells.result c.draw_cells.ensures.picture c.draw_cells.ensures.fault c.draw_cells.ensures.left

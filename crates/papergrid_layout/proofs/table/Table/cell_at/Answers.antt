@@ -1,79 +1,37 @@
-use Rattle.std.proofs.Common.{◌↔◌, None, arith, inl, inr, subst, sym}
+use Rattle.std.proofs.Common.{◌↔◌, subst, sym}
 use Rattle.std.specs.Prelude.{IsTrue}
-use Rattle.papergrid_values.specs.declared.position.Position.{Position}
-use Rattle.papergrid_layout.specs.Places.{IsFirstOver, StandsOver, track_count, track_line, track_size}
-use Rattle.papergrid_values.specs.declared.direction.Direction.TheVariants.{Columns, Rows}
+use Rattle.papergrid_layout.specs.Places.{IsFirstOver, StandsOver}
+use Rattle.papergrid_layout.specs.ForProofs.Points.{LiesInEach}
 use Rattle.papergrid_layout.specs.Tables.{TableParts, view_of}
-use Rattle.papergrid_layout.proofs.PointLemmas.{none-beside, none-beyond, none-but-visible, one-tested, over-within}
+use Rattle.papergrid_layout.proofs.PointLemmas.{none-but-visible, one-tested}
 use Rattle.papergrid_layout.proofs.SpanningLemmas.{cover-in-row, first-over}
-use Rattle.papergrid_layout.proofs.TableLemmas.{none-past}
 use Rattle.papergrid_layout.proofs.table.Table.cell_at.Goals as goal
-use Rattle.papergrid_layout.proofs.table.Table.cell_at.Goals.{then-column-self-via-then-column-self, then-column-self-via-else-column-self+then-line-self}
-
-pub returns-then-column-self : goal.returns-then-column-self
-returns-then-column-self c =
-    let table = view_of (record { config = c.self.inside.config.now; widths = c.self.inside.sizes.columns.items; heights = c.self.inside.sizes.rows.items }) in
-    let kept = c.self.invariant in
-    subst (λ (t : TableParts). IsFirstOver (view_of t) c.args.column c.args.line None) c.self.view_is
-    (none-past table kept.fit c.args.column c.args.line (elim c.then-column-self.branch [
-      | then-column-self-via-then-column-self w ↦ inl (omega (arith, kept.wide, w.if-column-self.true))
-      | then-column-self-via-else-column-self+then-line-self w ↦ inr (omega (arith, kept.high, w.if-line-self.true))
-    ]))
-
-pub returns-in_err-track_before : goal.returns-in_err-track_before
-returns-in_err-track_before c =
-    let table = view_of (record { config = c.self.inside.config.now; widths = c.self.inside.sizes.columns.items; heights = c.self.inside.sizes.rows.items }) in
-    let kept = c.self.invariant in
-    rw c.from_residual.ensures
-    (subst (λ (t : TableParts). IsFirstOver (view_of t) c.args.column c.args.line None) c.self.view_is
-    (none-beyond table c.args.column c.args.line
-    (inl (c.in_err-track_before.ensures (track_size table Rows) (track_line table Rows) (track_count table Rows) kept.marked.high (omega (arith, kept.high, c.if-line-self.false))))))
-
-pub returns-in_err-track_before-2 : goal.returns-in_err-track_before-2
-returns-in_err-track_before-2 c =
-    let table = view_of (record { config = c.self.inside.config.now; widths = c.self.inside.sizes.columns.items; heights = c.self.inside.sizes.rows.items }) in
-    let kept = c.self.invariant in
-    rw c.from_residual-in_err-track_before-2.ensures
-    (subst (λ (t : TableParts). IsFirstOver (view_of t) c.args.column c.args.line None) c.self.view_is
-    (none-beside table c.args.column c.args.line
-    (inl (c.in_err-track_before-2.ensures (track_size table Columns) (track_line table Columns) (track_count table Columns) kept.marked.wide (omega (arith, kept.wide, c.if-column-self.false))))))
 
 pub returns-then-is_visible : goal.returns-then-is_visible
 returns-then-is_visible c =
     let table = view_of (record { config = c.self.inside.config.now; widths = c.self.inside.sizes.columns.items; heights = c.self.inside.sizes.rows.items }) in
-    let kept = c.self.invariant in
-    let within : Position = record { row = c.in_ok-track_before.field-0; col = c.in_ok-track_before-2.field-0 } in
-    let down = c.in_ok-track_before.ensures (track_size table Rows) (track_line table Rows) (track_count table Rows) kept.marked.high (omega (arith, kept.high, c.if-line-self.false)) in
-    let across = c.in_ok-track_before-2.ensures (track_size table Columns) (track_line table Columns) (track_count table Columns) kept.marked.wide (omega (arith, kept.wide, c.if-column-self.false)) in
-    let lies = over-within table c.args.column c.args.line c.in_ok-track_before.field-0 c.in_ok-track_before-2.field-0 down across in
-    let says = subst (λ (t : TableParts). IsTrue c.stands_over.result ↔ StandsOver (view_of t) c.args.column c.args.line within) (sym c.self.view_is) c.stands_over.ensures in
+    let lies = subst (λ (t : TableParts). LiesInEach (view_of t) c.args.column c.args.line c.in_ok-within.within) (sym c.self.view_is) c.in_ok-within.ensures in
+    let says = subst (λ (t : TableParts). IsTrue c.stands_over.result ↔ StandsOver (view_of t) c.args.column c.args.line c.in_ok-within.within) (sym c.self.view_is) c.stands_over.ensures in
     subst (λ (t : TableParts). IsFirstOver (view_of t) c.args.column c.args.line c.then_some.result) c.self.view_is
     (rw c.then_some.ensures
-    (one-tested table c.args.column c.args.line within c.stands_over.result says
-    (λ q over. none-but-visible c.self.inside.config.now within q (sym c.if-is_visible.ensures) (lies q over))))
+    (one-tested table c.args.column c.args.line c.in_ok-within.within c.stands_over.result says
+    (λ q over. none-but-visible c.self.inside.config.now c.in_ok-within.within q (sym c.if-is_visible.ensures) (lies q over))))
 
 pub first_covering-requires : goal.first_covering-requires
 first_covering-requires c =
     let table = view_of (record { config = c.self.inside.config.now; widths = c.self.inside.sizes.columns.items; heights = c.self.inside.sizes.rows.items }) in
-    let kept = c.self.invariant in
-    let within : Position = record { row = c.in_ok-track_before.field-0; col = c.in_ok-track_before-2.field-0 } in
-    let down = c.in_ok-track_before.ensures (track_size table Rows) (track_line table Rows) (track_count table Rows) kept.marked.high (omega (arith, kept.high, c.if-line-self.false)) in
-    let across = c.in_ok-track_before-2.ensures (track_size table Columns) (track_line table Columns) (track_count table Columns) kept.marked.wide (omega (arith, kept.wide, c.if-column-self.false)) in
-    let lies = over-within table c.args.column c.args.line c.in_ok-track_before.field-0 c.in_ok-track_before-2.field-0 down across in (
+    let lies = subst (λ (t : TableParts). LiesInEach (view_of t) c.args.column c.args.line c.in_ok-within.within) (sym c.self.view_is) c.in_ok-within.ensures in
+    let spanning = c.self.invariant.spanning in (
       table,
-      rw c.deref.ensures.value kept.spanning.are,
+      rw c.deref.ensures.value spanning.are,
       rw c.deref.ensures.value
-          (cover-in-row table c.args.column c.args.line c.self.inside.spanning.items within kept.spanning c.if-is_visible.ensures lies),
+          (cover-in-row table c.args.column c.args.line c.self.inside.spanning.items c.in_ok-within.within spanning c.if-is_visible.ensures lies),
     )
 
 pub returns : goal.returns
 returns c =
     let table = view_of (record { config = c.self.inside.config.now; widths = c.self.inside.sizes.columns.items; heights = c.self.inside.sizes.rows.items }) in
-    let kept = c.self.invariant in
-    let within : Position = record { row = c.in_ok-track_before.field-0; col = c.in_ok-track_before-2.field-0 } in
-    let down = c.in_ok-track_before.ensures (track_size table Rows) (track_line table Rows) (track_count table Rows) kept.marked.high (omega (arith, kept.high, c.if-line-self.false)) in
-    let across = c.in_ok-track_before-2.ensures (track_size table Columns) (track_line table Columns) (track_count table Columns) kept.marked.wide (omega (arith, kept.wide, c.if-column-self.false)) in
-    let lies = over-within table c.args.column c.args.line c.in_ok-track_before.field-0 c.in_ok-track_before-2.field-0 down across in
+    let lies = subst (λ (t : TableParts). LiesInEach (view_of t) c.args.column c.args.line c.in_ok-within.within) (sym c.self.view_is) c.in_ok-within.ensures in
     let first = rw c.deref.ensures.value at c.first_covering.ensures in
     subst (λ (t : TableParts). IsFirstOver (view_of t) c.args.column c.args.line c.first_covering.result) c.self.view_is
-    (first-over table c.args.column c.args.line c.self.inside.spanning.items within kept.spanning c.if-is_visible.ensures lies c.first_covering.result first)
+    (first-over table c.args.column c.args.line c.self.inside.spanning.items c.in_ok-within.within c.self.invariant.spanning c.if-is_visible.ensures lies c.first_covering.result first)

@@ -1,84 +1,53 @@
-use Rattle.std.proofs.Common.{◌≡◌, ◌∙◌, arith, ap, sym, subst, fold, get_or, length}
-use Rattle.std.specs.Vec.{with_items}
+use Rattle.std.proofs.Common.{◌∙◌, ap, arith}
 use Rattle.std.proofs.lemmas.List.{with_items_is}
-use Rattle.papergrid_tracks.specs.ForProofs.Settled.{AreGrown, line_at}
-use Rattle.papergrid_tracks.specs.Problem.{problem_of_demands, total_of}
+use Rattle.std.proofs.lemmas.Result.{err_from_is_err_and}
+use Rattle.papergrid_tracks.specs.Problem.{problem_of_demands}
 use Rattle.papergrid_tracks.specs.declared.sizing.Sizing.TheVariants.{ByShares}
-use Rattle.papergrid_tracks.specs.ForProofs.Demands.{no_demand}
-use Rattle.papergrid_tracks.specs.Sizes.{grown_sizes, by_span}
-use Rattle.papergrid_tracks.proofs.OutLemmas.{table_demands}
-use Rattle.papergrid_tracks.proofs.DemandLemmas.{table-kept, by_span-kept}
-use Rattle.papergrid_tracks.proofs.SettleLemmas.{AreGrown-grown, AreSizesTooLarge-grown, total-grown}
-use Rattle.papergrid_tracks.proofs.Theorems.{AreSizes-sizes_of, table-by_span}
+use Rattle.papergrid_tracks.specs.Sizes.{by_span}
+use Rattle.papergrid_tracks.proofs.SettleLemmas.{AreGrown-grown, AreSizesTooLarge-grown, table-begun, table-sorted, total-grown}
+use Rattle.papergrid_tracks.proofs.Theorems.{AreSizes-sizes_of}
 use Rattle.papergrid_tracks.proofs.solution.BySharesSolver.solve.Goals as goal
 
-pub returns-in-Some : goal.returns-in-Some
-returns-in-Some g c = c.in-Some.ensures.refused ByShares (g.A.Axis.line c.args.axis.now)
+pub returns-in_err-sizes : goal.returns-in_err-sizes
+returns-in_err-sizes g c = λ demands kept.
+    let p = err_from_is_err_and c.from_residual.result c.from_residual.ensures.1 in
+    rw (p.1, p.2) (c.in_err-sizes.ensures.refused ByShares demands kept)
 
 pub by_span-requires : goal.by_span-requires
-by_span-requires g c =
-    let table = table_demands c.args.count c.args.kept.now c.requires.0 c.requires.1 c.in_default.ensures.inside in
-    rw c.deref-2.ensures.value (table-kept c.args.count c.args.kept.now c.requires.0 c.requires.1 c.in_default.ensures.small table)
+by_span-requires g c = rw c.deref.ensures.value (table-begun c.requires.1 c.in_ok-sizes.ensures.begun)
 
 pub grow_all-requires-clause-cells : goal.grow_all-requires-clause-cells
-grow_all-requires-clause-cells g c =
-    let demands = c.requires.0 in
-    let table = table_demands c.args.count c.args.kept.now demands c.requires.1 c.in_default.ensures.inside in
-    let many : length c.deref_mut-2.result.now ≡ c.args.count = omega (arith, c.in_ok-sizes.ensures.len, c.deref_mut.ensures.len, c.write_base.ensures.length, c.deref_mut-2.ensures.len) in
-    let cells : c.deref-4.result.now ≡ by_span c.args.count demands =
-    c.deref-4.ensures.value ∙ c.in_ok-cells.ensures ∙ ap (by_span c.args.count) c.deref-2.ensures.value ∙ by_span-kept c.args.count c.args.kept.now demands c.requires.1 c.in_default.ensures.small in
-    rw (many, cells) (table-by_span (problem_of_demands (line_at c.deref-3.result.now) c.args.count demands) table)
+grow_all-requires-clause-cells g c = rw c.deref_mut.ensures.value
+    (table-sorted c.requires.1 c.in_ok-sizes.ensures.begun _ (c.deref-3.ensures.value ∙ c.in_ok-cells.ensures ∙ ap (by_span c.args.count) c.deref.ensures.value))
 
-pub returns-in_default-checked_total : goal.returns-in_default-checked_total
-returns-in_default-checked_total g c = λ demands kept.
-    let after : c.deref-5.result.now ≡ fold (grown_sizes (line_at c.in_ok-lines.lines.items)) c.deref_mut-2.result.now c.deref-4.result.now =
-    c.deref-5.ensures.value ∙ with_items_is (with_items c.in_ok-sizes.sizes c.write_base.new.sizes) c.grow_all.new.sizes (omega arith) ∙ rw c.deref-3.ensures.value at c.in_ok-growing_cells.ensures.sizes in
-    AreSizesTooLarge-grown (g.A.Axis.line c.args.axis.now) c.args.count c.args.kept.now demands kept c.in_default.ensures.inside c.in_default.ensures.small
-    (line_at c.in_ok-lines.lines.items) c.in_ok-lines.ensures.drawn
-    c.deref_mut-2.result.now (omega (arith, c.in_ok-sizes.ensures.len, c.deref_mut.ensures.len, c.write_base.ensures.length, c.deref_mut-2.ensures.len))
-    (rw (c.deref_mut-2.ensures.value ∙ with_items_is c.in_ok-sizes.sizes c.write_base.new.sizes (omega arith)) (λ k l. c.write_base.ensures.base k l ∙ ap (λ ds. (get_or ds k no_demand).minimum) c.deref.ensures.value))
-    c.deref-4.result.now (c.deref-4.ensures.value ∙ c.in_ok-cells.ensures ∙ ap (by_span c.args.count) c.deref-2.ensures.value)
-    c.deref-5.result.now after
-    (rw c.deref-6.ensures.value at c.in_default-checked_total.ensures)
+pub returns-in_default : goal.returns-in_default
+returns-in_default g c = λ demands kept.
+    let sorted = c.in_ok-cells.ensures ∙ ap (by_span c.args.count) c.deref.ensures.value in
+    let after = with_items_is c.in_ok-sizes.sizes c.grow_all.new.sizes (omega arith) ∙ rw (c.deref-2.ensures.value, c.deref-3.ensures.value, c.deref_mut.ensures.value) at c.in_ok-growing_cells.ensures.sizes in
+    AreSizesTooLarge-grown kept c.in_ok-sizes.ensures.begun _ sorted _ after (rw (c.deref-4.ensures.value, c.deref-5.ensures.value) at c.in_default.ensures)
 
 pub certificate_of-requires : goal.certificate_of-requires
 certificate_of-requires g c =
-    let demands = c.requires.0 in
-    let kept = c.requires.1 in
-    let problem = problem_of_demands (g.A.Axis.line c.args.axis.now) c.args.count demands in
-    let after : c.deref-5.result.now ≡ fold (grown_sizes (line_at c.in_ok-lines.lines.items)) c.deref_mut-2.result.now c.deref-4.result.now =
-    c.deref-5.ensures.value ∙ with_items_is (with_items c.in_ok-sizes.sizes c.write_base.new.sizes) c.grow_all.new.sizes (omega arith) ∙ rw c.deref-3.ensures.value at c.in_ok-growing_cells.ensures.sizes in
-    let are : AreGrown problem c.deref-5.result.now c.deref-8.result.now c.deref-9.result.now = AreGrown-grown (g.A.Axis.line c.args.axis.now) c.args.count c.args.kept.now demands kept c.in_default.ensures.inside c.in_default.ensures.small
-    (line_at c.in_ok-lines.lines.items) c.in_ok-lines.ensures.drawn
-    c.deref_mut-2.result.now (omega (arith, c.in_ok-sizes.ensures.len, c.deref_mut.ensures.len, c.write_base.ensures.length, c.deref_mut-2.ensures.len))
-    (rw (c.deref_mut-2.ensures.value ∙ with_items_is c.in_ok-sizes.sizes c.write_base.new.sizes (omega arith)) (λ k l. c.write_base.ensures.base k l ∙ ap (λ ds. (get_or ds k no_demand).minimum) c.deref.ensures.value))
-    c.deref-4.result.now (c.deref-4.ensures.value ∙ c.in_ok-cells.ensures ∙ ap (by_span c.args.count) c.deref-2.ensures.value)
-    c.deref-5.result.now after
-    c.deref-8.result.now c.deref-9.result.now (c.deref-8.ensures.value ∙ sym c.deref-4.ensures.value) (c.deref-9.ensures.value ∙ rw c.deref-3.ensures.value at c.in_ok-growing_cells.ensures.growing_cells) (rw c.deref-6.ensures.value at c.in-Some-checked_total.ensures).0 in
-    (problem, kept, subst (λ xs. AreGrown problem xs c.deref-8.result.now c.deref-9.result.now) (c.deref-5.ensures.value ∙ sym c.deref-7.ensures.value) are)
+    let sorted = c.in_ok-cells.ensures ∙ ap (by_span c.args.count) c.deref.ensures.value in
+    let after = with_items_is c.in_ok-sizes.sizes c.grow_all.new.sizes (omega arith) ∙ rw (c.deref-2.ensures.value, c.deref-3.ensures.value, c.deref_mut.ensures.value) at c.in_ok-growing_cells.ensures.sizes in
+    let grew = c.in_ok-growing_cells.ensures.growing_cells in (
+      problem_of_demands (g.A.Axis.line c.args.axis.now) c.args.count c.requires.0,
+      c.requires.1,
+      rw (c.deref-6.ensures.value, c.deref-7.ensures.value, c.deref-8.ensures.value) (AreGrown-grown c.requires.1 c.in_ok-sizes.ensures.begun _ sorted _ after _
+          (rw (c.deref-2.ensures.value, c.deref-3.ensures.value, c.deref_mut.ensures.value) at grew) (rw (c.deref-4.ensures.value, c.deref-5.ensures.value) at c.in-Some.ensures).0),
+    )
 
 pub returns : goal.returns
 returns g c = λ demands kept.
     let problem = problem_of_demands (g.A.Axis.line c.args.axis.now) c.args.count demands in
-    let after : c.deref-5.result.now ≡ fold (grown_sizes (line_at c.in_ok-lines.lines.items)) c.deref_mut-2.result.now c.deref-4.result.now =
-    c.deref-5.ensures.value ∙ with_items_is (with_items c.in_ok-sizes.sizes c.write_base.new.sizes) c.grow_all.new.sizes (omega arith) ∙ rw c.deref-3.ensures.value at c.in_ok-growing_cells.ensures.sizes in
-    let are : AreGrown problem c.deref-5.result.now c.deref-8.result.now c.deref-9.result.now = AreGrown-grown (g.A.Axis.line c.args.axis.now) c.args.count c.args.kept.now demands kept c.in_default.ensures.inside c.in_default.ensures.small
-    (line_at c.in_ok-lines.lines.items) c.in_ok-lines.ensures.drawn
-    c.deref_mut-2.result.now (omega (arith, c.in_ok-sizes.ensures.len, c.deref_mut.ensures.len, c.write_base.ensures.length, c.deref_mut-2.ensures.len))
-    (rw (c.deref_mut-2.ensures.value ∙ with_items_is c.in_ok-sizes.sizes c.write_base.new.sizes (omega arith)) (λ k l. c.write_base.ensures.base k l ∙ ap (λ ds. (get_or ds k no_demand).minimum) c.deref.ensures.value))
-    c.deref-4.result.now (c.deref-4.ensures.value ∙ c.in_ok-cells.ensures ∙ ap (by_span c.args.count) c.deref-2.ensures.value)
-    c.deref-5.result.now after
-    c.deref-8.result.now c.deref-9.result.now (c.deref-8.ensures.value ∙ sym c.deref-4.ensures.value) (c.deref-9.ensures.value ∙ rw c.deref-3.ensures.value at c.in_ok-growing_cells.ensures.growing_cells) (rw c.deref-6.ensures.value at c.in-Some-checked_total.ensures).0 in
+    let sorted = c.in_ok-cells.ensures ∙ ap (by_span c.args.count) c.deref.ensures.value in
+    let after = with_items_is c.in_ok-sizes.sizes c.grow_all.new.sizes (omega arith) ∙ rw (c.deref-2.ensures.value, c.deref-3.ensures.value, c.deref_mut.ensures.value) at c.in_ok-growing_cells.ensures.sizes in
+    let grew = c.in_ok-growing_cells.ensures.growing_cells in
+    let found = rw (c.deref-4.ensures.value, c.deref-5.ensures.value) at c.in-Some.ensures in
+    let are = AreGrown-grown kept c.in_ok-sizes.ensures.begun _ sorted _ after _ (rw (c.deref-2.ensures.value, c.deref-3.ensures.value, c.deref_mut.ensures.value) at grew) found.0 in
     record {
-      sizes = AreSizes-sizes_of problem are.table _ (sym c.deref-5.ensures.value ∙ are.shares) are.total;
-      total = (rw c.deref-6.ensures.value at c.in-Some-checked_total.ensures).1
-          ∙ total-grown (g.A.Axis.line c.args.axis.now) c.args.count c.args.kept.now demands kept c.in_default.ensures.inside c.in_default.ensures.small
-          (line_at c.in_ok-lines.lines.items) c.in_ok-lines.ensures.drawn
-          c.deref_mut-2.result.now (omega (arith, c.in_ok-sizes.ensures.len, c.deref_mut.ensures.len, c.write_base.ensures.length, c.deref_mut-2.ensures.len))
-          (rw (c.deref_mut-2.ensures.value ∙ with_items_is c.in_ok-sizes.sizes c.write_base.new.sizes (omega arith)) (λ k l. c.write_base.ensures.base k l ∙ ap (λ ds. (get_or ds k no_demand).minimum) c.deref.ensures.value))
-          c.deref-4.result.now (c.deref-4.ensures.value ∙ c.in_ok-cells.ensures ∙ ap (by_span c.args.count) c.deref-2.ensures.value)
-          c.deref-5.result.now after
-          ∙ ap (total_of problem) c.deref-5.ensures.value;
-      asked = c.in_ok-certificate.ensures.asked problem kept (subst (λ xs. AreGrown problem xs c.deref-8.result.now c.deref-9.result.now) (c.deref-5.ensures.value ∙ sym c.deref-7.ensures.value) are);
+      sizes = AreSizes-sizes_of problem are.table _ are.shares are.total;
+      total = found.1 ∙ total-grown kept c.in_ok-sizes.ensures.begun _ sorted _ after;
+      asked = c.in_ok-certificate.ensures.asked problem kept (rw (c.deref-6.ensures.value, c.deref-7.ensures.value, c.deref-8.ensures.value) are);
       unasked = c.in_ok-certificate.ensures.unasked;
     }
