@@ -1,14 +1,12 @@
 //! Tables drawn: of records by a list of settings, and of a script.
 
-ghost use Rattle.std.specs.Prelude.{◌≡◌, ◌≢◌, ◌↔◌, ⊤, All, IfErr, IfOk, OnOk, false, true};
+ghost use Rattle.std.specs.Prelude.{◌≡◌, ◌≢◌, ◌↔◌, ⊤, All, IfErr, IfOk, false, true};
 ghost use Rattle.papergrid_script.specs.declared.answer.RunEnd.{RunEnd};
 ghost use Rattle.papergrid_values.specs.declared.position.Position.{Position};
 ghost use Rattle.papergrid_text.specs.HeldRows.{column_count};
 ghost use Rattle.papergrid_config.specs.Applied.{is_in_range};
 ghost use Rattle.papergrid_draw.specs.Margins.{printed};
-ghost use Rattle.papergrid_draw.specs.Drawings.{Drawing};
-ghost use Rattle.papergrid_text.specs.Transfer.{IsTaken};
-ghost use Rattle.papergrid_draw.specs.Sinks.{IsRefusal, IsUndrawn, WritesPicture};
+ghost use Rattle.papergrid_draw.specs.Sinks.{IsRefusal, WritesPicture};
 ghost use Rattle.papergrid_draw.specs.declared.error.DrawError.TheVariants.{Memory, NoRoom, NotTiled, OutOfTable, TooLarge, Write};
 ghost use Rattle.papergrid_draw.specs.Lined.{lined};
 ghost use Rattle.papergrid.specs.Pictures.{IsPictureRun, IsTablePicture, refusal_line};
@@ -56,16 +54,12 @@ pub fn draw<T: AsStr, W: Sink>(
     sink: &mut W,
 ) -> Result<(), DrawError>
     requires { All (λ setting. is_in_range setting ≡ true) settings.items }
-    ensures picture { OnOk result ((d : Drawing) × IsDrawingBy (column_count records.now)
-        (texts_held T.text records.now) sizing settings.items d
-        × IsTaken W.contents W.has_failed W.has_stalled sink.old (printed d) sink.new) }
     // A failed allocation fails no write.
-    ensures undrawn { IfErr result (IsUndrawn W.contents W.has_failed W.has_stalled
-        (IsDrawingBy (column_count records.now) (texts_held T.text records.now) sizing
-        settings.items)
-        (IsPictureFault (column_count records.now) (texts_held T.text records.now) sizing
-        settings.items)
-        printed sink.old sink.new) }
+    ensures picture { let columns = column_count records.now in
+        let texts = texts_held T.text records.now in
+        WritesPicture W.contents W.has_failed W.has_stalled
+        (IsDrawingBy columns texts sizing settings.items)
+        (IsPictureFault columns texts sizing settings.items) printed sink.old sink.new result }
     // No cell lacks room in sizes that are found for it.
     ensures room { IfErr result (λ e. (p : Position) → e ≢ NoRoom p) }
 {

@@ -183,14 +183,3 @@ module _ {W : Type 0} (contents : W → Option (List ℕ)) (has_failed has_stall
     pub undrawn-steady : (old new : W) (e : DrawError) → IsUndrawn contents has_failed has_stalled IsDrawn IsFault text_of old new e →
         (e ≡ Write) ⊎ IsSteady contents has_failed has_stalled old new
     undrawn-steady old new e so = elim so.left [ inl same ↦ inr (ap has_failed same.1, ap has_stalled same.1) | inr cut ↦ cut.2.steady ]
-
-    -- the same by its two outcomes
-    pub picture-written : {A : Type 0} (old new : W) (result : Result A DrawError) → WritesPicture contents has_failed has_stalled IsDrawn IsFault text_of old new result →
-        OnOk result ((d : Drawing) × IsDrawn d × took old (text_of d) new)
-    picture-written old new (Ok x) so = so
-    picture-written old new (Err e) so = tt
-
-    pub picture-undrawn : {A : Type 0} (old new : W) (result : Result A DrawError) → WritesPicture contents has_failed has_stalled IsDrawn IsFault text_of old new result →
-        IfErr result (IsUndrawn contents has_failed has_stalled IsDrawn IsFault text_of old new)
-    picture-undrawn old new (Ok x) so = tt
-    picture-undrawn old new (Err e) so = so

@@ -10,7 +10,7 @@ use Rattle.papergrid_values.specs.declared.position.Position.{Position}
 use Rattle.papergrid_config.specs.declared.spanned.SpannedConfig.{SpannedConfig}
 use Rattle.papergrid_layout.specs.Places.{begin_along, line_offset, track_line, track_size}
 use Rattle.papergrid_draw.specs.Characters.{Mark, crossing, has_overrides, overridden_mark, plain_mark, segment, segment_character, segment_piece, vertical}
-use Rattle.papergrid_draw.specs.Colored.{AreAlikeButColors, uncolored}
+use Rattle.papergrid_draw.specs.Colored.{AreAlikeButColors, uncolored, with_colors_of}
 use Rattle.papergrid_draw.specs.Contents as contents
 use Rattle.papergrid_draw.specs.Contents.{above, before, block_at, content, inner, line_pieces, shown, shown_line}
 use Rattle.papergrid_draw.specs.Drawings.{Drawing, layout_of}
@@ -58,17 +58,7 @@ fills-alike kind character n color other = in_case (n == 0)
 -- a drawing, and another that has these colours
 module _ (d : Drawing) (y : SpannedConfig) (color : Position → Option (List ℕ × List ℕ)) where
   abbrev other : Drawing
-  other = record d {
-    config = record d.config {
-      padding_color = y.padding_color;
-      justification_color = y.justification_color;
-      colors = y.colors;
-      horizontal_colors = y.horizontal_colors;
-      vertical_colors = y.vertical_colors;
-      margin_color = y.margin_color;
-    };
-    color = color;
-  }
+  other = record d { config = with_colors_of d.config y; color = color }
 
   -- ---- cells
 

@@ -32,9 +32,9 @@ pub record AreInBlocks (inks : List Ink) (bytes : List ℕ) : Type 0 where
   pub written : bytes ≡ flat_map (λ block. colored block.0 (flat_map (λ text. text) block.1)) blocks
   pub texts : flat_map (λ block. map (λ text. (block.0, text)) block.1) blocks ≡ inks
 
--- two configurations differ in colours at most
-abbrev pub DifferInColors : SpannedConfig → SpannedConfig → Type 0
-DifferInColors x y = y ≡ record x {
+-- the first with the colours of the second
+abbrev pub with_colors_of : SpannedConfig → SpannedConfig → SpannedConfig
+with_colors_of x y = record x {
   padding_color = y.padding_color;
   justification_color = y.justification_color;
   colors = y.colors;
@@ -42,6 +42,10 @@ DifferInColors x y = y ≡ record x {
   vertical_colors = y.vertical_colors;
   margin_color = y.margin_color;
 }
+
+-- two configurations differ in colours at most
+abbrev pub DifferInColors : SpannedConfig → SpannedConfig → Type 0
+DifferInColors x y = y ≡ with_colors_of x y
 
 -- two drawings do
 pub record AreAlikeButColors (d e : Drawing) : Type 0 where

@@ -1,10 +1,8 @@
 //! Documents, drawn.
 
-ghost use Rattle.std.specs.Prelude.{◌≡◌, IfErr, IfOk, None, OnOk};
+ghost use Rattle.std.specs.Prelude.{◌≡◌, IfOk, None};
 ghost use Rattle.papergrid_draw.specs.declared.room.Room.TheVariants.{Known};
-ghost use Rattle.papergrid_draw.specs.Drawings.{Drawing};
-ghost use Rattle.papergrid_text.specs.Transfer.{IsTaken};
-ghost use Rattle.papergrid_draw.specs.Sinks.{IsUndrawn, WritesPicture};
+ghost use Rattle.papergrid_draw.specs.Sinks.{WritesPicture};
 ghost use Rattle.papergrid_draw.specs.Lined.{lined};
 ghost use Rattle.papergrid_layout.specs.Answers.{UnlessMemory};
 ghost use Rattle.papergrid_config.specs.Laws.{IsConfiguredBy};
@@ -37,12 +35,10 @@ pub fn draw_document<W: Sink>(
     sink: &mut W,
 ) -> Result<(), DrawError>
     requires { AreInRange document.now.settings.items }
-    ensures picture { OnOk result ((d : Drawing) × IsDocumentDrawing document.now sizing d
-        × IsTaken W.contents W.has_failed W.has_stalled sink.old (lined d) sink.new) }
     // A failed allocation fails no write.
-    ensures undrawn { IfErr result (IsUndrawn W.contents W.has_failed W.has_stalled
+    ensures { WritesPicture W.contents W.has_failed W.has_stalled
         (IsDocumentDrawing document.now sizing) (IsDocumentFault document.now sizing)
-        lined sink.old sink.new) }
+        lined sink.old sink.new result }
 {
     let config = configuration(alloc, &document.settings)?;
     draw_by(alloc, &config, document, sizing, sink)

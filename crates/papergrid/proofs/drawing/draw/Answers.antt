@@ -1,6 +1,6 @@
 use Rattle.papergrid_text.specs.HeldRows.{column_count}
 use Rattle.papergrid_draw.specs.Margins.{printed}
-use Rattle.papergrid_draw.proofs.SinkLemmas.{draws-also, picture-undrawn, picture-written}
+use Rattle.papergrid_draw.proofs.SinkLemmas.{draws-also}
 use Rattle.papergrid_draw.specs.Pictures.{IsDrawingBy, IsDrawingWith, IsFaultWith, IsPictureFault, texts_held}
 use Rattle.papergrid_draw.proofs.PictureLemmas.{drawn-by-settings, fault-by-settings, picture-has-room}
 use Rattle.papergrid.proofs.drawing.draw.Goals as goal
@@ -11,25 +11,10 @@ returns-clause-picture g c =
     let texts = texts_held g.T.AsStr.text c.args.records.now in
     let settings = c.args.settings.items in
     let config = c.in_ok-config.config in
-    picture-written g.W.Sink.contents g.W.Sink.has_failed g.W.Sink.has_stalled (IsDrawingBy columns texts c.args.sizing settings) (IsPictureFault columns texts c.args.sizing settings) printed
-    c.args.sink.now c.draw_records.new.sink c.draw_records.result
-    (draws-also g.W.Sink.contents g.W.Sink.has_failed g.W.Sink.has_stalled (IsDrawingWith columns texts c.args.sizing config) (IsFaultWith columns texts c.args.sizing config) printed
+    draws-also g.W.Sink.contents g.W.Sink.has_failed g.W.Sink.has_stalled (IsDrawingWith columns texts c.args.sizing config) (IsFaultWith columns texts c.args.sizing config) printed
     (IsDrawingBy columns texts c.args.sizing settings) (IsPictureFault columns texts c.args.sizing settings)
     (drawn-by-settings settings config c.in_ok-config.ensures columns texts c.args.sizing) (fault-by-settings settings config c.in_ok-config.ensures columns texts c.args.sizing)
-    c.args.sink.now c.draw_records.new.sink c.draw_records.result c.draw_records.ensures)
-
-pub returns-clause-undrawn : goal.returns-clause-undrawn
-returns-clause-undrawn g c =
-    let columns = column_count c.args.records.now in
-    let texts = texts_held g.T.AsStr.text c.args.records.now in
-    let settings = c.args.settings.items in
-    let config = c.in_ok-config.config in
-    picture-undrawn g.W.Sink.contents g.W.Sink.has_failed g.W.Sink.has_stalled (IsDrawingBy columns texts c.args.sizing settings) (IsPictureFault columns texts c.args.sizing settings) printed
-    c.args.sink.now c.draw_records.new.sink c.draw_records.result
-    (draws-also g.W.Sink.contents g.W.Sink.has_failed g.W.Sink.has_stalled (IsDrawingWith columns texts c.args.sizing config) (IsFaultWith columns texts c.args.sizing config) printed
-    (IsDrawingBy columns texts c.args.sizing settings) (IsPictureFault columns texts c.args.sizing settings)
-    (drawn-by-settings settings config c.in_ok-config.ensures columns texts c.args.sizing) (fault-by-settings settings config c.in_ok-config.ensures columns texts c.args.sizing)
-    c.args.sink.now c.draw_records.new.sink c.draw_records.result c.draw_records.ensures)
+    c.args.sink.now c.draw_records.new.sink c.draw_records.result c.draw_records.ensures
 
 pub returns-clause-room : goal.returns-clause-room
 returns-clause-room g c =
