@@ -9,6 +9,8 @@ use Rattle.std.proofs.lemmas.List.FromFn.{length-map-range_with_len, map-range_w
 use Rattle.papergrid_values.specs.declared.direction.Direction.TheVariants.{Rows}
 use Rattle.papergrid_values.specs.declared.indent.Indent.{Indent}
 use Rattle.papergrid_values.specs.declared.offset.Offset.{Offset}
+use Rattle.papergrid_values.specs.declared.sides.Sides.{Sides}
+use Rattle.papergrid_config.specs.declared.spanned.SpannedConfig.{SpannedConfig}
 use Rattle.papergrid_tracks.proofs.LoopLemmas.{range_with_len-append}
 use Rattle.papergrid_layout.specs.Places.{total_along, track_line, track_size}
 use Rattle.papergrid_layout.specs.Tables.{TableParts, line_position, view_of}
@@ -319,7 +321,7 @@ pub same-beside : (i j : Indent) (c k : Option (List ℕ × List ℕ)) (o q : Of
 same-beside i j c k o q n m y ei ec eo en = cc
 
 -- the lines of a margin
-pub same-margin : (i j : Indent) (c k : Option (List ℕ × List ℕ)) (o q : Offset) (w v : ℕ) → i ≡ j → c ≡ k → o ≡ q → w ≡ v →
+same-margin : (i j : Indent) (c k : Option (List ℕ × List ℕ)) (o q : Offset) (w v : ℕ) → i ≡ j → c ≡ k → o ≡ q → w ≡ v →
     replicate i.size (margin_line i c o w) ≡ replicate j.size (margin_line j k q v)
 same-margin i j c k o q w v ei ec eo ew = cc
 
@@ -350,9 +352,16 @@ module _ {W : Type 0} (takes breaks : W → List ℕ → W → Type 0) where
   picture-of a b p s lines r none writes =
       subst (λ l. Writes takes breaks a b l r) (ap (λ begun. lines_after begun lines) none ∙ lines_after-all lines) writes.bytes
 
-  pub lines-same : {A : Type 0} (a b : W) (p s : Bool) (xs ys : List (List ℕ)) (r : Result A DrawError) → xs ≡ ys → WritesLines takes breaks a b p s xs r →
-      WritesLines takes breaks a b p s ys r
-  lines-same a b p s xs ys r e writes = subst (λ lines. WritesLines takes breaks a b p s lines r) e writes
+  -- the lines of a margin, by a configuration that is read
+  pub margin-read : {A : Type 0} (a b : W) (p s : Bool) (r : Result A DrawError) (config from : SpannedConfig) (margin : Sides Indent) (color : Option (List ℕ × List ℕ)) (offset : Sides Offset) (w v : ℕ)
+      (indent_of : Sides Indent → Indent) (color_of : SpannedConfig → Option (List ℕ × List ℕ)) (offset_of : Sides Offset → Offset) →
+      config ≡ from → margin ≡ config.margin → color ≡ color_of config → offset ≡ config.margin_offset → w ≡ v →
+      WritesLines takes breaks a b p s (replicate (indent_of margin).size (margin_line (indent_of margin) color (offset_of offset) w)) r →
+      WritesLines takes breaks a b p s (replicate (indent_of from.margin).size (margin_line (indent_of from.margin) (color_of from) (offset_of from.margin_offset) v)) r
+  margin-read a b p s r config from margin color offset w v indent_of color_of offset_of same margin_is color_is offset_is width =
+      subst (λ lines. WritesLines takes breaks a b p s lines r)
+      (same-margin _ _ _ _ _ _ w v (ap indent_of (margin_is ∙ ap (λ (k : SpannedConfig). k.margin) same)) (color_is ∙ ap color_of same)
+      (ap offset_of (offset_is ∙ ap (λ (k : SpannedConfig). k.margin_offset) same)) width)
 
 -- the lines of the table between those of the margins
 module _ (d : Drawing) where

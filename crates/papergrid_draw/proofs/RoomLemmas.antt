@@ -1,12 +1,13 @@
 -- Which cells of a table have room, by row and then by column.
-use Rattle.std.proofs.Common.{◌≡◌, ℕ, ◌+◌, Bool, true, false, if◌then◌else◌, is_some, inl, inr, Option, Some, None, subst, arith}
+use Rattle.std.proofs.Common.{◌≡◌, ℕ, ◌+◌, ◌<◌, Bool, true, false, if◌then◌else◌, is_some, inl, inr, Option, Some, None, subst, arith}
 use Rattle.std.proofs.lemmas.Bool.{cases_lt}
 use Rattle.papergrid_values.specs.Positions.{position_of}
 use Rattle.papergrid_values.specs.declared.direction.Direction.TheVariants.{Columns, Rows}
 use Rattle.papergrid_values.specs.declared.position.Position.{Position}
 use Rattle.papergrid_layout.specs.Places.{IsInsideTable, IsVisibleCell, TableView}
 use Rattle.papergrid_layout.proofs.PlacingLemmas.{before-next, before-turn}
-use Rattle.papergrid_draw.specs.Drawings.{Drawing}
+use Rattle.papergrid_draw.specs.Contents.{Block, block_at}
+use Rattle.papergrid_draw.specs.Drawings.{Drawing, layout_of}
 use Rattle.papergrid_draw.specs.Faults.{AllHaveRoom, HasNoRoom}
 use Rattle.papergrid_draw.specs.Tiles.{IsFirstPosition, IsTiled}
 use Rattle.papergrid_draw.specs.ForProofs.Sheets.{HaveRoomBefore}
@@ -31,6 +32,14 @@ shown-of true x found is e some = subst (λ o. is_some o ≡ is) e some
 shown-of false x found is e some = subst (λ o. is_some o ≡ is) e some
 
 module _ (d : Drawing) where
+  -- a cell of a tiled table that is found is visible, and its block is as is told of one that ends in the table
+  pub found-block : {A : Type 0} (p : Position) (x : A) (found : Option A) (block : Option Block) → IsTiled (layout_of d) →
+      found ≡ (if (layout_of d).grid.shows p then Some x else None) → is_some found ≡ true → p.row < d.shape.0 → p.col < d.shape.1 →
+      (IsInsideTable (layout_of d) p → block ≡ Some (block_at d p)) → IsVisibleCell (layout_of d) p × (block ≡ Some (block_at d p))
+  found-block p x found block tiled is some row_in col_in told =
+      let cell : IsVisibleCell (layout_of d) p = record { visible = shown-of ((layout_of d).grid.shows p) x found true is some; row_in = row_in; col_in = col_in } in
+      (cell, told (inside-of (layout_of d) p tiled cell))
+
   pub room-more : (r c : ℕ) → HaveRoomBefore d r c → (HasNoRoom d (position_of (r, c)) → ⊥) → HaveRoomBefore d r (c + 1)
   room-more r c so_far here = λ q before none. elim (before-next q r c before) [
     | inl earlier ↦ so_far q earlier none

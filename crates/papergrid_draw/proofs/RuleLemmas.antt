@@ -201,9 +201,16 @@ module _ (frame : Frame) where
       pub over-asked : stands_over (drawing_of frame.table.now texts) r c ≡ answer
       over-asked = over-test (drawing_of frame.table.now texts) frame.tiled r c o inside owner ∙ asked
 
-      -- and, with its column, over the crossing
-      pub crossing-asked : stands_over_crossing (drawing_of frame.table.now texts) r c ≡ (answer && nat_lt o.col c)
+      crossing-asked : stands_over_crossing (drawing_of frame.table.now texts) r c ≡ (answer && nat_lt o.col c)
       crossing-asked = crossing-test (drawing_of frame.table.now texts) frame.tiled r c o inside owner ∙ ap (λ over. over && nat_lt o.col c) asked
+
+      -- and, with its column, over the crossing, which else is seen where a line is kept
+      pub crossing-seen : (kept hidden : Bool) → kept ≡ get_or frame.verticals.items c kept → hidden ≡ (answer && nat_lt o.col c) →
+          (draws_vertical (drawing_of frame.table.now texts) c && not (stands_over_crossing (drawing_of frame.table.now texts) r c)) ≡ (kept && not hidden)
+      crossing-seen kept hidden is over =
+          let wide = frame-columns frame in
+          let line = frame-line frame texts c kept (omega (arith, inside, wide)) is in
+          λ i. line i && not ((crossing-asked ∙ sym over) i)
 
 -- ---- a horizontal line, column by column
 

@@ -1,10 +1,12 @@
 -- What is written of lines, one after the other.
 use Rattle.std.proofs.Common.{◌≡◌, ◌∙◌, ◌+◌, ◌-◌, ◌<◌, ℕ, replicate, suc, Bool, true, false, List, [], ◌∷◌, ◌++◌, Result, Ok, Err, OnOk, length, refl, sym, ap, subst, arith, append-nil, append_assoc}
 use Rattle.std.specs.Fmt.{WritesInCalls}
+use Rattle.std.specs.Result.{IsErrAnd}
 use Rattle.std.specs.List.{enumerate_from, join_with_byte}
 use Rattle.std.specs.declared.alloc.AllocError.{AllocError}
 use Rattle.std.proofs.Output.{writes_in_calls_append, writes_in_calls_nil, writes_in_calls_single}
 use Rattle.std.proofs.lemmas.List.{replicate-append-replicate}
+use Rattle.std.proofs.lemmas.Result.{err_from_is_err_and}
 use Rattle.papergrid_draw.specs.declared.error.DrawError.{DrawError}
 use Rattle.papergrid_draw.specs.declared.error.DrawError.TheVariants.{Memory, NoRoom, NotTiled, OutOfTable, TooLarge, Write}
 use Rattle.papergrid_draw.specs.ForProofs.Sheets.{IsCutShort, Writes, WritesLines, begun_after, lines_after, separator}
@@ -118,9 +120,12 @@ module _ {W : Type 0} (takes breaks : W → List ℕ → W → Type 0) where
     begun_is = done;
   }
 
-  -- of no line, as memory was refused before any was ended
-  pub lines-refused : {A : Type 0} (a : W) (begun after : Bool) (lines : List (List ℕ)) (e : AllocError) → WritesLines takes breaks {A = A} a a begun after lines (Err (Memory e))
-  lines-refused a begun after lines e = record { bytes = cut-memory a (lines_after begun lines) e; begun_is = tt }
+  -- of no line, as memory was refused before any was ended, and that is handed on
+  pub lines-refused : {A : Type 0} (a : W) (begun after : Bool) (lines : List (List ℕ)) (e : AllocError) (r : Result A DrawError) → IsErrAnd r (λ error. error ≡ Memory e) →
+      WritesLines takes breaks a a begun after lines r
+  lines-refused a begun after lines e r is =
+      let p = err_from_is_err_and r is in
+      rw (p.1, p.2) (record { bytes = cut-memory a (lines_after begun lines) e; begun_is = tt })
 
   both-begun : {A : Type 0} (p q s : Bool) (xs ys : List (List ℕ)) (r : Result A DrawError) → q ≡ begun_after p xs → OnOk r (s ≡ begun_after q ys) → OnOk r (s ≡ begun_after p (xs ++ ys))
   both-begun p q s xs ys (Ok x) first second = second ∙ ap (λ b. begun_after b ys) first ∙ sym (begun_after-append p xs ys)

@@ -3,6 +3,7 @@ pub mod Apart
 pub mod Blanks
 pub mod Blocks
 pub mod Crossings
+pub mod FilledFrames
 pub mod Looks
 pub mod Pages
 pub mod Pens

@@ -9,6 +9,7 @@ mod color;
 mod crossings;
 pub mod delivery;
 mod error;
+mod filled_frame;
 pub mod laws;
 mod lines;
 mod look;

@@ -4,14 +4,15 @@
 ghost use Rattle.std.specs.Prelude.{◌≡◌, ◌↔◌, ◌+◌, ◌++◌, ◌<◌, ◌≤◌, IfOk, IsTrue, OnOk, length, option_copied, slice_index, string_bytes};
 ghost use Rattle.papergrid_draw.specs.Bytes.{pieces_bytes, rule_bytes};
 ghost use Rattle.papergrid_draw.specs.Contents.{block_at, content};
-ghost use Rattle.papergrid_draw.specs.Drawings.{drawn_of};
 ghost use Rattle.papergrid_draw.specs.Drawn.{crossing_stretch, rule_line, text_line};
+ghost use Rattle.papergrid_draw.specs.ForProofs.FilledFrames.{filled, parts_of};
 ghost use Rattle.papergrid_draw.specs.ForProofs.Pages.{AreSlots, Texts, drawing_of, text_start};
 ghost use Rattle.papergrid_draw.specs.ForProofs.Pens.{AddsStretches};
 ghost use Rattle.papergrid_draw.specs.ForProofs.Plain.{HasCommonRule, IsCommonRule, IsPlain};
 
 use crate::block::push_only_line;
 use crate::characters::Rule;
+use crate::filled_frame::FilledFrame;
 use crate::page::{Frame, Slot};
 use crate::source::Cells;
 use papergrid_config::SpannedConfig;
@@ -27,31 +28,6 @@ pub fn is_plain(config: &SpannedConfig) -> bool
     let rows = config.has_row_spans();
     let lines = config.has_common_lines();
     !columns && (!rows && lines)
-}
-
-/// Adds the text line of a row that is one line high.
-pub fn push_plain_text_line<'a, S: Cells>(
-    frame: &Frame<'a>,
-    cells: &'a S,
-    row: usize,
-    line: &mut String,
-) -> Result<(), AllocError>
-where
-    S::Cell: Drop,
-    requires plain { IsPlain frame.now.table.now.config }
-    requires row_in { row < length frame.now.table.now.heights }
-    requires low { slice_index frame.now.table.now.heights row ≡ 1 }
-    ensures { let d = drawn_of S.lines S.color frame.now.table.now cells.now in
-        OnOk result (string_bytes line.new
-        ≡ string_bytes line.old ++ pieces_bytes (text_line d row 0)) }
-{
-    for col in 0..frame.shape.1 {
-        let position = Position { row, col };
-        frame.push_line_before(position, 1, 0, line)?;
-        push_cell(frame, cells, position, line)?;
-    }
-    let col = frame.shape.1;
-    frame.push_line_before(Position { row, col }, 1, 0, line)
 }
 
 /// Adds the horizontal line before a row, or after the last; and takes the bytes of those between rows that have no line of
@@ -132,59 +108,68 @@ fn push_plain_crossing<'a>(
     rule.push_crossing(frame.config, position, frame.shape, line)
 }
 
-/// Adds the cell at a position of a row that is one line high.
-fn push_cell<'a, S: Cells>(
-    frame: &Frame<'a>,
-    cells: &'a S,
-    position: Position,
-    line: &mut String,
-) -> Result<(), AllocError>
+impl<'a, S: Cells> FilledFrame<'a, S>
 where
     S::Cell: Drop,
-    requires plain { IsPlain frame.now.table.now.config }
-    requires row_in { position.row < length frame.now.table.now.heights }
-    requires col_in { position.col < length frame.now.table.now.widths }
-    requires low { slice_index frame.now.table.now.heights position.row ≡ 1 }
-    ensures { let d = drawn_of S.lines S.color frame.now.table.now cells.now in
-        OnOk result (string_bytes line.new ≡ string_bytes line.old
-        ++ pieces_bytes (content (block_at d position) 0)) }
 {
-    let width = frame.table.get_width(position.col);
-    if let Some(blanks) = &frame.looks.blanks {
-        if let (None, Some((text, own))) = (cells.color(position), cells.line(position)) {
-            let horizontal = frame.looks.horizontal(frame.config, position);
-            return blanks.push(horizontal, text, own, width, line);
+    /// Adds the text line of a row that is one line high.
+    pub fn push_plain_text_line(&self, row: usize, line: &mut String) -> Result<(), AllocError>
+        requires plain { IsPlain (parts_of self.now).config }
+        requires row_in { row < length (parts_of self.now).heights }
+        requires low { slice_index (parts_of self.now).heights row ≡ 1 }
+        ensures { OnOk result (string_bytes line.new ≡ string_bytes line.old
+            ++ pieces_bytes (text_line (filled S.lines S.color self.now) row 0)) }
+    {
+        for col in 0..self.frame.shape.1 {
+            let position = Position { row, col };
+            self.frame.push_line_before(position, 1, 0, line)?;
+            self.push_cell(position, line)?;
         }
+        let col = self.frame.shape.1;
+        self.frame
+            .push_line_before(Position { row, col }, 1, 0, line)
     }
-    let cell = cells.cell(position)?;
-    let look = frame.looks.get(frame.config, position);
-    push_only_line(look, cell, cells.color(position), width, line)
-}
 
-/// The cells of a row, before its first text line.
-pub fn plain_slots<'a, S: Cells>(
-    alloc: Global,
-    frame: &Frame<'a>,
-    cells: &'a S,
-    row: usize,
-) -> Result<Vec<Slot<'a, S::Cell>>, AllocError>
-where
-    S::Cell: Drop,
-    requires plain { IsPlain frame.now.table.now.config }
-    requires row_in { row < length frame.now.table.now.heights }
-    ensures { let d = drawn_of S.lines S.color frame.now.table.now cells.now in
-        IfOk result (λ slots. AreSlots d row (λ _. text_start d row) slots.items) }
-{
-    let mut slots = Vec::new(alloc);
-    for col in 0..frame.shape.1 {
-        let owner = Position { row, col };
-        let cell = cells.cell(owner)?;
-        let block = frame.block(owner, cell, cells.color(owner));
-        slots.push(Slot {
-            owner,
-            block,
-            drawn: 0,
-        })?;
+    /// Adds the cell at a position of a row that is one line high.
+    fn push_cell(&self, position: Position, line: &mut String) -> Result<(), AllocError>
+        requires plain { IsPlain (parts_of self.now).config }
+        requires row_in { position.row < length (parts_of self.now).heights }
+        requires col_in { position.col < length (parts_of self.now).widths }
+        requires low { slice_index (parts_of self.now).heights position.row ≡ 1 }
+        ensures { OnOk result (string_bytes line.new ≡ string_bytes line.old
+            ++ pieces_bytes (content (block_at (filled S.lines S.color self.now) position) 0)) }
+    {
+        let (frame, cells) = (self.frame, self.cells);
+        let width = frame.table.get_width(position.col);
+        if let Some(blanks) = &frame.looks.blanks {
+            if let (None, Some((text, own))) = (cells.color(position), cells.line(position)) {
+                let horizontal = frame.looks.horizontal(frame.config, position);
+                return blanks.push(horizontal, text, own, width, line);
+            }
+        }
+        let cell = cells.cell(position)?;
+        let look = frame.looks.get(frame.config, position);
+        push_only_line(look, cell, cells.color(position), width, line)
     }
-    Ok(slots)
+
+    /// The cells of a row, before its first text line.
+    pub fn plain_slots(&self, row: usize) -> Result<Vec<Slot<'a, S::Cell>>, AllocError>
+        requires plain { IsPlain (parts_of self.now).config }
+        requires row_in { row < length (parts_of self.now).heights }
+        ensures { let d = filled S.lines S.color self.now in
+            IfOk result (λ slots. AreSlots d row (λ _. text_start d row) slots.items) }
+    {
+        let mut slots = Vec::new(self.alloc);
+        for col in 0..self.frame.shape.1 {
+            let owner = Position { row, col };
+            let cell = self.cells.cell(owner)?;
+            let block = self.frame.block(owner, cell, self.cells.color(owner));
+            slots.push(Slot {
+                owner,
+                block,
+                drawn: 0,
+            })?;
+        }
+        Ok(slots)
+    }
 }

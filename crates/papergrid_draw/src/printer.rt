@@ -11,20 +11,20 @@ ghost use Rattle.papergrid_draw.specs.Faults.{AllHaveRoom, IsDrawFault, whole_he
 ghost use Rattle.papergrid_draw.specs.Margins.{printed, printed_lines, whole_width};
 ghost use Rattle.papergrid_text.specs.Transfer.{IsTaken};
 ghost use Rattle.papergrid_draw.specs.Sinks.{IsCutOff};
+ghost use Rattle.papergrid_draw.specs.ForProofs.FilledFrames.{filled};
 ghost use Rattle.papergrid_draw.specs.ForProofs.Pages.{Texts, drawing_of};
 ghost use Rattle.papergrid_draw.specs.ForProofs.Sheets.{Writes, WritesLines, margined};
 ghost use Rattle.papergrid_draw.specs.declared.error.DrawError.TheVariants.{Memory, Write};
 
 use crate::delivery::{Delivery, ToSink, ToText};
 use crate::error::DrawError;
+use crate::filled_frame::FilledFrame;
 use crate::page::Frame;
 use crate::plain::is_plain;
-use crate::plain_rows::draw_plain_rows;
-use crate::room::{Room, find_room};
+use crate::room::Room;
 use crate::rows::draw_margin;
 use crate::sheet::Sheet;
 use crate::source::Cells;
-use crate::spanned::draw_spanned_rows;
 use crate::tiles::check_tiles;
 use papergrid_config::SpannedConfig;
 use papergrid_layout::Table;
@@ -163,88 +163,76 @@ where
 {
     check_tiles(alloc, table.config(), table.shape())?;
     let frame = Frame::new(alloc, table)?;
-    draw_tiled::<S, D, W>(alloc, &frame, cells, room, writer)
+    let filled = FilledFrame {
+        alloc,
+        frame: &frame,
+        cells,
+    };
+    filled.draw_tiled::<D, W>(room, writer)
 }
 
-/// Writes the picture of a tiled table, if its cells have room and it is not too large.
-fn draw_tiled<'a, S: Cells, D: Delivery<W>, W>(
-    alloc: Global,
-    frame: &Frame<'a>,
-    cells: &'a S,
-    room: Room,
-    writer: &mut W,
-) -> Result<(), DrawError>
+impl<'a, S: Cells> FilledFrame<'a, S>
 where
     S::Cell: Drop,
-    requires { room ≡ Room.Known →
-        AllHaveRoom (drawn_of S.lines S.color frame.now.table.now cells.now) }
-    ensures { let d = drawn_of S.lines S.color frame.now.table.now cells.now in
-        Draws D.takes D.breaks d writer.old writer.new
-        (join_with_byte 10 (printed_lines d)) result }
 {
-    find_room(alloc, frame, cells, room)?;
-    let width = whole_width(frame.table, frame.config).ok_or(DrawError::TooLarge)?;
-    draw_all::<S, D, W>(alloc, frame, cells, width, writer)
-}
-
-/// Writes the margins above and below, and between them the lines of the table.
-fn draw_all<'a, S: Cells, D: Delivery<W>, W>(
-    alloc: Global,
-    frame: &Frame<'a>,
-    cells: &'a S,
-    width: usize,
-    writer: &mut W,
-) -> Result<(), DrawError>
-where
-    S::Cell: Drop,
-    requires { width ≡ whole_width (drawn_of S.lines S.color frame.now.table.now cells.now) }
-    ensures { Writes D.takes D.breaks writer.old writer.new
-        (join_with_byte 10 (printed_lines (drawn_of S.lines S.color frame.now.table.now cells.now)))
-        result }
-{
-    let config = frame.config;
-    let margin = config.get_margin();
-    let color = config.get_margin_color();
-    let offset = config.get_margin_offset();
-    let mut sheet = Sheet::new(alloc);
-    draw_margin::<D, W>(
-        &mut sheet,
-        &margin.top,
-        color.top,
-        &offset.top,
-        width,
-        writer,
-    )?;
-    draw_rows::<S, D, W>(alloc, frame, cells, &mut sheet, writer)?;
-    draw_margin::<D, W>(
-        &mut sheet,
-        &margin.bottom,
-        color.bottom,
-        &offset.bottom,
-        width,
-        writer,
-    )
-}
-
-/// Writes the lines of a tiled table.
-fn draw_rows<'a, S: Cells, D: Delivery<W>, W>(
-    alloc: Global,
-    frame: &Frame<'a>,
-    cells: &'a S,
-    sheet: &mut Sheet,
-    writer: &mut W,
-) -> Result<(), DrawError>
-where
-    S::Cell: Drop,
-    requires { sheet.old.written ≡ 0 }
-    ensures { let d = drawn_of S.lines S.color frame.now.table.now cells.now in
-        WritesLines D.takes D.breaks writer.old writer.new
-        sheet.old.begun sheet.new.begun (margined d 0 (drawn_lines d)) result }
-{
-    if is_plain(frame.config) {
-        return draw_plain_rows::<S, D, W>(alloc, frame, cells, sheet, writer);
+    /// Writes the picture of a tiled table, if its cells have room and it is not too large.
+    fn draw_tiled<D: Delivery<W>, W>(&self, room: Room, writer: &mut W) -> Result<(), DrawError>
+        requires { room ≡ Room.Known → AllHaveRoom (filled S.lines S.color self.now) }
+        ensures { let d = filled S.lines S.color self.now in
+            Draws D.takes D.breaks d writer.old writer.new
+            (join_with_byte 10 (printed_lines d)) result }
+    {
+        self.find_room(room)?;
+        let width = whole_width(self.frame.table, self.frame.config).ok_or(DrawError::TooLarge)?;
+        self.draw_all::<D, W>(width, writer)
     }
-    draw_spanned_rows::<S, D, W>(alloc, frame, cells, sheet, writer)
+
+    /// Writes the margins above and below, and between them the lines of the table.
+    fn draw_all<D: Delivery<W>, W>(&self, width: usize, writer: &mut W) -> Result<(), DrawError>
+        requires { width ≡ whole_width (filled S.lines S.color self.now) }
+        ensures { Writes D.takes D.breaks writer.old writer.new
+            (join_with_byte 10 (printed_lines (filled S.lines S.color self.now))) result }
+    {
+        let config = self.frame.config;
+        let margin = config.get_margin();
+        let color = config.get_margin_color();
+        let offset = config.get_margin_offset();
+        let mut sheet = Sheet::new(self.alloc);
+        draw_margin::<D, W>(
+            &mut sheet,
+            &margin.top,
+            color.top,
+            &offset.top,
+            width,
+            writer,
+        )?;
+        self.draw_rows::<D, W>(&mut sheet, writer)?;
+        draw_margin::<D, W>(
+            &mut sheet,
+            &margin.bottom,
+            color.bottom,
+            &offset.bottom,
+            width,
+            writer,
+        )
+    }
+
+    /// Writes the lines of a tiled table.
+    fn draw_rows<D: Delivery<W>, W>(
+        &self,
+        sheet: &mut Sheet,
+        writer: &mut W,
+    ) -> Result<(), DrawError>
+        requires { sheet.old.written ≡ 0 }
+        ensures { let d = filled S.lines S.color self.now in
+            WritesLines D.takes D.breaks writer.old writer.new
+            sheet.old.begun sheet.new.begun (margined d 0 (drawn_lines d)) result }
+    {
+        if is_plain(self.frame.config) {
+            return self.draw_plain_rows::<D, W>(sheet, writer);
+        }
+        self.draw_spanned_rows::<D, W>(sheet, writer)
+    }
 }
 
 /// The columns of each line with both margins, where they and the lines with both margins fit `usize`.

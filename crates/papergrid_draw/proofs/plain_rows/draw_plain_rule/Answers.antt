@@ -1,5 +1,5 @@
 use Rattle.std.proofs.Common.{Ok, None, [], ◌∷◌, ◌≡◌, ◌<◌, ℕ, true, false, cond, ap, subst, arith}
-use Rattle.std.proofs.lemmas.Result.{err_from_is_err_and, on_ok_weaker}
+use Rattle.std.proofs.lemmas.Result.{on_ok_weaker}
 use Rattle.papergrid_layout.specs.Places.{total_along}
 use Rattle.papergrid_layout.specs.Tables.{view_of}
 use Rattle.papergrid_values.specs.declared.direction.Direction.TheVariants.{Rows}
@@ -30,9 +30,7 @@ returns-then-is_none-clause-written g c = λ texts below.
     omega (arith, c.requires.start texts, text-after d c.args.row, none)
 
 pub returns-in_err-begin_beside-clause-lines : goal.returns-in_err-begin_beside-clause-lines
-returns-in_err-begin_beside-clause-lines g c =
-    let p = err_from_is_err_and c.from_residual.result c.from_residual.ensures.1 in
-    rw (p.1, p.2) (λ texts. lines-refused g.D.Delivery.takes g.D.Delivery.breaks _ _ _ _ _)
+returns-in_err-begin_beside-clause-lines g c = λ texts. lines-refused g.D.Delivery.takes g.D.Delivery.breaks _ _ _ _ _ _ c.from_residual.ensures.1
 
 pub push_plain_rule_line-requires : goal.push_plain_rule_line-requires
 push_plain_rule_line-requires g c = record {
@@ -42,9 +40,7 @@ push_plain_rule_line-requires g c = record {
 }
 
 pub returns-in_err-push_plain_rule_line-clause-lines : goal.returns-in_err-push_plain_rule_line-clause-lines
-returns-in_err-push_plain_rule_line-clause-lines g c =
-    let p = err_from_is_err_and c.from_residual-in_err-push_plain_rule_line.result c.from_residual-in_err-push_plain_rule_line.ensures.1 in
-    rw (p.1, p.2) (λ texts. lines-refused g.D.Delivery.takes g.D.Delivery.breaks _ _ _ _ _)
+returns-in_err-push_plain_rule_line-clause-lines g c = λ texts. lines-refused g.D.Delivery.takes g.D.Delivery.breaks _ _ _ _ _ _ c.from_residual-in_err-push_plain_rule_line.ensures.1
 
 pub end_beside-requires : goal.end_beside-requires
 end_beside-requires g c =

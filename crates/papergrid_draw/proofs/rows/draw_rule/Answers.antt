@@ -1,5 +1,5 @@
 use Rattle.std.proofs.Common.{Ok, ◌≡◌, ◌∙◌, ◌<◌, ◌+◌, true, false, ap, subst, arith}
-use Rattle.std.proofs.lemmas.Result.{err_from_is_err_and, on_ok_weaker}
+use Rattle.std.proofs.lemmas.Result.{on_ok_weaker}
 use Rattle.papergrid_layout.specs.Places.{total_along}
 use Rattle.papergrid_layout.specs.Tables.{view_of}
 use Rattle.papergrid_values.specs.declared.direction.Direction.TheVariants.{Rows}
@@ -26,9 +26,7 @@ returns-then-is_none-clause-kept g c = λ texts at l.
     (line-told c.args.frame.now.table.now texts c.args.row c.horizontal_at.result false at.row_in c.horizontal_at.ensures c.if-is_none.ensures)
 
 pub returns-in_err-begin_beside-clause-lines : goal.returns-in_err-begin_beside-clause-lines
-returns-in_err-begin_beside-clause-lines g c =
-    let p = err_from_is_err_and c.from_residual.result c.from_residual.ensures.1 in
-    rw (p.1, p.2) (λ texts at. lines-refused g.D.Delivery.takes g.D.Delivery.breaks _ _ _ _ _)
+returns-in_err-begin_beside-clause-lines g c = λ texts at. lines-refused g.D.Delivery.takes g.D.Delivery.breaks _ _ _ _ _ _ c.from_residual.ensures.1
 
 pub push_rule_line-requires : goal.push_rule_line-requires
 push_rule_line-requires g c =
@@ -39,9 +37,7 @@ push_rule_line-requires g c =
     (told.0, (at.each, has, at.kept))
 
 pub returns-in_err-push_rule_line-clause-lines : goal.returns-in_err-push_rule_line-clause-lines
-returns-in_err-push_rule_line-clause-lines g c =
-    let p = err_from_is_err_and c.from_residual-in_err-push_rule_line.result c.from_residual-in_err-push_rule_line.ensures.1 in
-    rw (p.1, p.2) (λ texts at. lines-refused g.D.Delivery.takes g.D.Delivery.breaks _ _ _ _ _)
+returns-in_err-push_rule_line-clause-lines g c = λ texts at. lines-refused g.D.Delivery.takes g.D.Delivery.breaks _ _ _ _ _ _ c.from_residual-in_err-push_rule_line.ensures.1
 
 pub end_beside-requires : goal.end_beside-requires
 end_beside-requires g c =

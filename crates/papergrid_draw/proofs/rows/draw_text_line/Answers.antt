@@ -1,5 +1,5 @@
 use Rattle.std.proofs.Common.{◌∙◌, ◌<◌, ◌+◌, ap, arith}
-use Rattle.std.proofs.lemmas.Result.{err_from_is_err_and, on_ok_weaker}
+use Rattle.std.proofs.lemmas.Result.{on_ok_weaker}
 use Rattle.papergrid_layout.specs.Places.{total_along}
 use Rattle.papergrid_layout.specs.Tables.{view_of}
 use Rattle.papergrid_values.specs.declared.direction.Direction.TheVariants.{Rows}
@@ -10,14 +10,10 @@ use Rattle.papergrid_draw.proofs.PrinterLemmas.{one-margined, text-next, text-wi
 use Rattle.papergrid_draw.proofs.rows.draw_text_line.Goals as goal
 
 pub returns-in_err-begin_beside-clause-lines : goal.returns-in_err-begin_beside-clause-lines
-returns-in_err-begin_beside-clause-lines g c =
-    let p = err_from_is_err_and c.from_residual.result c.from_residual.ensures.1 in
-    rw (p.1, p.2) (λ texts at. lines-refused g.D.Delivery.takes g.D.Delivery.breaks _ _ _ _ _)
+returns-in_err-begin_beside-clause-lines g c = λ texts at. lines-refused g.D.Delivery.takes g.D.Delivery.breaks _ _ _ _ _ _ c.from_residual.ensures.1
 
 pub returns-in_err-push_text_line-clause-lines : goal.returns-in_err-push_text_line-clause-lines
-returns-in_err-push_text_line-clause-lines g c =
-    let p = err_from_is_err_and c.from_residual-in_err-push_text_line.result c.from_residual-in_err-push_text_line.ensures.1 in
-    rw (p.1, p.2) (λ texts at. lines-refused g.D.Delivery.takes g.D.Delivery.breaks _ _ _ _ _)
+returns-in_err-push_text_line-clause-lines g c = λ texts at. lines-refused g.D.Delivery.takes g.D.Delivery.breaks _ _ _ _ _ _ c.from_residual-in_err-push_text_line.ensures.1
 
 pub end_beside-requires : goal.end_beside-requires
 end_beside-requires g c =
