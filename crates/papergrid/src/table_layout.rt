@@ -1,6 +1,6 @@
 //! The layout of records by a list of settings.
 
-ghost use Rattle.std.specs.Prelude.{◌≡◌, All, true};
+ghost use Rattle.std.specs.Prelude.{◌≡◌, All, IfErr, IfOk, true};
 ghost use Rattle.papergrid_config.specs.Applied.{is_in_range};
 ghost use Rattle.papergrid_config.specs.declared.spanned.SpannedConfig.{SpannedConfig};
 ghost use Rattle.papergrid_config.specs.Grids.{spanned_grid};
@@ -110,8 +110,20 @@ where
         (R.columns records) cells T.sizing result)) }
 {
     let config = configuration(alloc, settings)?;
-    let mut dimension = GridDimension::new(alloc);
-    dimension.estimate(records, &config)?;
+    estimated(GridDimension::new(alloc), records, &config)
+}
+
+/// A dimension with the sizes of the records by a configuration. Condition: it accepts the records.
+fn estimated<D: Estimate<R, SpannedConfig> + Drop, R>(
+    mut dimension: D,
+    records: R,
+    config: &SpannedConfig,
+) -> Result<D, LayoutError>
+    requires { D.accepts records }
+    ensures ok { IfOk result (λ made. D.is_estimate made records config.now) }
+    ensures err { IfErr result (λ error. D.is_refused dimension records config.now error) }
+{
+    dimension.estimate(records, config)?;
     Ok(dimension)
 }
 

@@ -4,7 +4,7 @@ use Rattle.std.specs.Prelude.{length, option_map, slice_index, string_bytes}
 use Rattle.std.specs.BTreeMap.{get}
 use Rattle.papergrid_values.specs.MapKeys.{position_cmp}
 use Rattle.papergrid_config.specs.declared.spanned.SpannedConfig.{SpannedConfig}
-use Rattle.papergrid_layout.specs.Answers.{AreBothSizes, IsBothRefused, UnlessMemory, UnlessMemoryError}
+use Rattle.papergrid_layout.specs.Answers.{AreBothSizes, UnlessMemory, UnlessMemoryError}
 use Rattle.papergrid_layout.specs.Tables.{IsTable, IsTableOf, IsTotalTooLarge, TableParts, view_of}
 use Rattle.papergrid_tracks.specs.declared.sizing.Sizing.{Sizing}
 use Rattle.papergrid_tracks.specs.declared.error.LayoutError.{LayoutError}
@@ -13,7 +13,6 @@ use Rattle.papergrid_draw.specs.Drawings.{Drawing}
 use Rattle.papergrid_draw.specs.Errors.{draw_error_of}
 use Rattle.papergrid_draw.specs.Faults.{AllHaveRoom}
 use Rattle.papergrid_draw.specs.declared.error.DrawError.{DrawError}
-use Rattle.papergrid_draw.specs.declared.error.DrawError.TheVariants as draw_errors
 use Rattle.papergrid_draw.specs.Cells.{lines_at, text_lines}
 use Rattle.papergrid_walk.specs.Measures.{text_measure}
 use Rattle.papergrid_config.specs.Laws.{IsConfiguredBy}

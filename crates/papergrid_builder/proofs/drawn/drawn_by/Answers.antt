@@ -29,7 +29,8 @@ returns-in-Ok-clause-ok c =
     let rows = ap (λ r. r.iter.items) c.new-records.ensures ∙ c.in_ok-from_slice.ensures.items in
     let columns = ap (λ r. r.count_columns) c.new-records.ensures ∙ c.longest_of-columns.ensures in
     let is = drawing-told (λ cell. cell.now) (λ text. text.now) (λ row. row.now) c.args.config.now c.args.sizing columns rows c.in_ok-table.table c.in_ok-table.ensures c.args.rows.now refl in
-    (_, is, c.in-Ok.ensures.picture.bytes_are ∙ ap (λ before. before ++ lined _) c.new-sink.ensures)
+    let written = c.in-Ok.ensures.picture.bytes_are in
+    (_, is, rw c.new-sink.ensures at written)
 
 pub refusal-requires : goal.refusal-requires
 refusal-requires c =
