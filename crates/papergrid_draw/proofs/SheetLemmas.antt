@@ -1,8 +1,8 @@
 -- What is written of lines, one after the other.
 use Rattle.std.proofs.Common.{◌≡◌, ◌∙◌, ◌+◌, ◌-◌, ◌<◌, ℕ, replicate, suc, Bool, true, false, List, [], ◌∷◌, ◌++◌, Result, Ok, Err, OnOk, length, refl, sym, ap, subst, arith, append-nil, append_assoc}
 use Rattle.std.specs.Fmt.{WritesInCalls}
-use Rattle.std.specs.Result.{IsErrAnd}
 use Rattle.std.specs.List.{enumerate_from, join_with_byte}
+use Rattle.std.specs.Result.{IsErrAnd}
 use Rattle.std.specs.declared.alloc.AllocError.{AllocError}
 use Rattle.std.proofs.Output.{writes_in_calls_append, writes_in_calls_nil, writes_in_calls_single}
 use Rattle.std.proofs.lemmas.List.{replicate-append-replicate}

@@ -120,14 +120,14 @@ where
         ensures { OnOk result (string_bytes line.new ≡ string_bytes line.old
             ++ pieces_bytes (text_line (filled S.lines S.color self.now) row 0)) }
     {
-        for col in 0..self.frame.shape.1 {
+        let frame = self.frame;
+        for col in 0..frame.shape.1 {
             let position = Position { row, col };
-            self.frame.push_line_before(position, 1, 0, line)?;
+            frame.push_line_before(position, 1, 0, line)?;
             self.push_cell(position, line)?;
         }
-        let col = self.frame.shape.1;
-        self.frame
-            .push_line_before(Position { row, col }, 1, 0, line)
+        let col = frame.shape.1;
+        frame.push_line_before(Position { row, col }, 1, 0, line)
     }
 
     /// Adds the cell at a position of a row that is one line high.

@@ -68,11 +68,11 @@ where
         ensures { OnOk result (AreSlotsSet (filled S.lines S.color self.now)
             row (length (parts_of self.now).widths) slots.new) }
     {
-        for col in 0..self.frame.shape.1 {
+        let (frame, cells) = (self.frame, self.cells);
+        for col in 0..frame.shape.1 {
             let position = Position { row, col };
-            let cell = self.cells.cell(position)?;
-            self.frame
-                .set(slots, position, cell, self.cells.color(position));
+            let cell = cells.cell(position)?;
+            frame.set(slots, position, cell, cells.color(position));
         }
         Ok(())
     }

@@ -14,8 +14,7 @@ pub returns-then-is_none-clause-lines : goal.returns-then-is_none-clause-lines
 returns-then-is_none-clause-lines g c = λ texts.
     let parts = c.args.frame.now.table.now in
     let d = drawing_of parts texts in
-    let hasnt : draws_horizontal d c.args.row ≡ false =
-    line-told parts texts c.args.row c.horizontal_at.result false c.requires.row_in c.horizontal_at.ensures c.if-is_none.ensures in
+    let hasnt = line-told parts texts c.args.row c.horizontal_at.result false c.requires.row_in c.horizontal_at.ensures c.if-is_none.ensures in
     subst (λ lines. WritesLines g.D.Delivery.takes g.D.Delivery.breaks {A = Unit {0}} c.args.writer.now c.args.writer.now c.args.sheet.now.begun c.args.sheet.now.begun
     (margined d (row_start d c.args.row) lines) (Ok tt))
     (rule_lines-none d c.args.row hasnt) (lines-none g.D.Delivery.takes g.D.Delivery.breaks _ _ tt)
@@ -24,8 +23,7 @@ pub returns-then-is_none-clause-written : goal.returns-then-is_none-clause-writt
 returns-then-is_none-clause-written g c = λ texts below.
     let parts = c.args.frame.now.table.now in
     let d = drawing_of parts texts in
-    let hasnt : draws_horizontal d c.args.row ≡ false =
-    line-told parts texts c.args.row c.horizontal_at.result false c.requires.row_in c.horizontal_at.ensures c.if-is_none.ensures in
+    let hasnt = line-told parts texts c.args.row c.horizontal_at.result false c.requires.row_in c.horizontal_at.ensures c.if-is_none.ensures in
     let none : cond {A = ℕ} (draws_horizontal d c.args.row) 1 0 ≡ 0 = ap (λ b. cond {A = ℕ} b 1 0) hasnt in
     omega (arith, c.requires.start texts, text-after d c.args.row, none)
 
@@ -47,8 +45,7 @@ end_beside-requires g c =
     let parts = c.args.frame.now.table.now in
     let texts : Texts = record { lines = λ _. []; color = λ _. None } in
     let d = drawing_of parts texts in
-    let has : draws_horizontal d c.args.row ≡ true =
-    line-told parts texts c.args.row c.horizontal_at.result true c.requires.row_in c.horizontal_at.ensures c.if-is_none.ensures in
+    let has = line-told parts texts c.args.row c.horizontal_at.result true c.requires.row_in c.horizontal_at.ensures c.if-is_none.ensures in
     let within : row_start d c.args.row < total_along (view_of parts) Rows = rule-within d c.args.row c.requires.row_in has in
     omega (arith, within, c.args.frame.now.read.fit, c.requires.start texts, c.in_ok-begin_beside.ensures.written)
 
@@ -56,8 +53,7 @@ pub returns-clause-lines : goal.returns-clause-lines
 returns-clause-lines g c = λ texts.
     let parts = c.args.frame.now.table.now in
     let d = drawing_of parts texts in
-    let has : draws_horizontal d c.args.row ≡ true =
-    line-told parts texts c.args.row c.horizontal_at.result true c.requires.row_in c.horizontal_at.ensures c.if-is_none.ensures in
+    let has = line-told parts texts c.args.row c.horizontal_at.result true c.requires.row_in c.horizontal_at.ensures c.if-is_none.ensures in
     subst (λ lines. WritesLines g.D.Delivery.takes g.D.Delivery.breaks c.args.writer.now c.end_beside.new.writer c.args.sheet.now.begun c.end_beside.new.sheet.begun
     (margined d (row_start d c.args.row) lines) c.end_beside.result)
     (rule_lines-one d c.args.row has)
@@ -77,8 +73,7 @@ pub returns-clause-written : goal.returns-clause-written
 returns-clause-written g c = on_ok_weaker c.end_beside.result (λ more texts below.
     let parts = c.args.frame.now.table.now in
     let d = drawing_of parts texts in
-    let has : draws_horizontal d c.args.row ≡ true =
-    line-told parts texts c.args.row c.horizontal_at.result true c.requires.row_in c.horizontal_at.ensures c.if-is_none.ensures in
+    let has = line-told parts texts c.args.row c.horizontal_at.result true c.requires.row_in c.horizontal_at.ensures c.if-is_none.ensures in
     let one : cond {A = ℕ} (draws_horizontal d c.args.row) 1 0 ≡ 1 = ap (λ b. cond {A = ℕ} b 1 0) has in
     omega (arith, more, c.in_ok-begin_beside.ensures.written, c.requires.start texts, text-after d c.args.row, one))
     c.end_beside.ensures.written

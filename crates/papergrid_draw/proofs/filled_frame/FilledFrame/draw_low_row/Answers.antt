@@ -2,8 +2,8 @@ use Rattle.std.proofs.Common.{◌∷◌, [], ◌<◌, ◌+◌, subst, arith}
 use Rattle.papergrid_layout.specs.Places.{total_along}
 use Rattle.papergrid_layout.specs.Tables.{view_of}
 use Rattle.papergrid_values.specs.declared.direction.Direction.TheVariants.{Rows}
-use Rattle.papergrid_draw.specs.ForProofs.FilledFrames.{filled, parts_of}
 use Rattle.papergrid_draw.specs.Drawn.{TextLine, text_line}
+use Rattle.papergrid_draw.specs.ForProofs.FilledFrames.{filled, parts_of}
 use Rattle.papergrid_draw.specs.ForProofs.Pages.{text_start}
 use Rattle.papergrid_draw.specs.ForProofs.Sheets.{WritesLines, margined, told_texts}
 use Rattle.papergrid_draw.proofs.SheetLemmas.{lines-refused}

@@ -1,8 +1,8 @@
 use Rattle.std.proofs.Common.{◌≡◌, ◌<◌, Ok, length, ap, refl, subst, sym, arith}
 use Rattle.std.proofs.lemmas.Option.{none-some}
 use Rattle.std.proofs.lemmas.Result.{err_from_is_err_and}
-use Rattle.papergrid_draw.specs.ForProofs.FilledFrames.{filled, parts_of}
 use Rattle.papergrid_draw.specs.Drawn.{rule_lines}
+use Rattle.papergrid_draw.specs.ForProofs.FilledFrames.{filled, parts_of}
 use Rattle.papergrid_draw.specs.ForProofs.Pages.{row_start}
 use Rattle.papergrid_draw.specs.ForProofs.Sheets.{WritesLines, margined, told_texts}
 use Rattle.papergrid_draw.proofs.SheetLemmas.{lines-none}

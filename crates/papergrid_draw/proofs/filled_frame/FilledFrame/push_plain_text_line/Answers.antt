@@ -1,10 +1,10 @@
-use Rattle.std.proofs.Common.{◌≡◌, ◌≤◌, ◌++◌, ◌∙◌, ap, arith, length, string_bytes, sym}
+use Rattle.std.proofs.Common.{◌++◌, ◌∙◌, ap, arith, string_bytes, sym}
 use Rattle.std.proofs.lemmas.Result.{on_ok_weaker}
 use Rattle.papergrid_values.specs.Positions.{position_of}
 use Rattle.papergrid_draw.specs.Bytes.{pieces_bytes}
 use Rattle.papergrid_draw.specs.Contents.{block_at, content}
-use Rattle.papergrid_draw.specs.ForProofs.FilledFrames.{filled, parts_of}
 use Rattle.papergrid_draw.specs.Drawn.{column_pieces, vertical_pieces}
+use Rattle.papergrid_draw.specs.ForProofs.FilledFrames.{filled}
 use Rattle.papergrid_draw.specs.ForProofs.Sheets.{told_texts}
 use Rattle.papergrid_draw.proofs.LineLemmas.{added-pieces, column-more, frame-columns, line-done}
 use Rattle.papergrid_draw.proofs.PlainLemmas.{plain-column}
@@ -20,8 +20,6 @@ loop-col-preserved g c =
     let d = filled g.S.Cells.lines g.S.Cells.color c.args.self.now in
     let row = c.args.row in
     let col = c.loop-col.col in
-    let wide = frame-columns c.args.self.now.frame.now in
-    let within : col ≤ length (parts_of c.args.self.now).widths = omega (arith, wide) in
     let line = string_bytes c.loop-col.line in
     column-more (column_pieces d row 0) col (string_bytes c.args.line.now) line (string_bytes c.push_cell.new.line) c.loop-col.invariant
     (added-pieces line (string_bytes c.push_line_before.new.line) (string_bytes c.push_cell.new.line)
@@ -35,10 +33,9 @@ push_line_before-requires-2 g c = omega arith
 pub returns : goal.returns
 returns g c = on_ok_weaker c.push_line_before-2.result (λ added.
     let texts = told_texts g.S.Cells.lines g.S.Cells.color c.args.self.now.cells.now in
-    let wide : c.args.self.now.frame.now.shape.1 ≡ length (parts_of c.args.self.now).widths = frame-columns c.args.self.now.frame.now in
-    let within : c.args.self.now.frame.now.shape.1 ≤ length (parts_of c.args.self.now).widths = omega (arith, wide) in
-    let all = columns-all c.args.self.now.frame.now c.loop-col.col c.loop-col-test.false c.loop-col.auto.col-end in
-    line-done (filled g.S.Cells.lines g.S.Cells.color c.args.self.now) c.args.row 0 c.loop-col.col c.args.self.now.frame.now.shape.1
-    (string_bytes c.args.line.now) (string_bytes c.loop-col.line) (string_bytes c.push_line_before-2.new.line) all wide c.loop-col.invariant
+    let frame = c.args.self.now.frame.now in
+    let all = columns-all frame c.loop-col.col c.loop-col-test.false c.loop-col.auto.col-end in
+    line-done (filled g.S.Cells.lines g.S.Cells.color c.args.self.now) c.args.row 0 c.loop-col.col frame.shape.1
+    (string_bytes c.args.line.now) (string_bytes c.loop-col.line) (string_bytes c.push_line_before-2.new.line) all (frame-columns frame) c.loop-col.invariant
     (added texts (sym c.requires.low)))
     c.push_line_before-2.ensures

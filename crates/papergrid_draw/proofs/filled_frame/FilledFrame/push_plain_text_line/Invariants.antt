@@ -1,8 +1,8 @@
 use Rattle.std.proofs.Common.{◌≡◌, ◌++◌, string_bytes}
 use Rattle.std.specs.List.{flat_map, range_with_len}
 use Rattle.papergrid_draw.specs.Bytes.{pieces_bytes}
-use Rattle.papergrid_draw.specs.ForProofs.FilledFrames.{filled}
 use Rattle.papergrid_draw.specs.Drawn.{column_pieces}
+use Rattle.papergrid_draw.specs.ForProofs.FilledFrames.{filled}
 use Rattle.papergrid_draw.proofs.filled_frame.FilledFrame.push_plain_text_line.Given as goal
 
 abbrev pub invariant-loop-col : goal.invariant-loop-col
