@@ -1,5 +1,5 @@
 -- The sizes and the picture of rows of texts that are lent, by what is found of records of them.
-use Rattle.std.proofs.Common.{Bor, Global, Vec, ◌≡◌, ℕ, List, None, Result, Ok, Err, IfErr, IfOk, length, map, refl, subst, sym}
+use Rattle.std.proofs.Common.{Global, Vec, ◌≡◌, ℕ, List, Result, Ok, Err, IfErr, IfOk, length, map, refl, subst, sym}
 use Rattle.papergrid_values.specs.declared.direction.Direction.{Direction}
 use Rattle.papergrid_values.specs.declared.per_direction.PerDirection.{PerDirection}
 use Rattle.papergrid_values.specs.declared.direction.Direction.TheVariants.{Columns, Rows}
@@ -10,7 +10,7 @@ use Rattle.papergrid_walk.specs.Cells.{problem_of}
 use Rattle.papergrid_layout.specs.Answers.{AreBothSizes, HoldAlong, IsBothRefused, UnlessMemoryError}
 use Rattle.papergrid_tracks.specs.Sizings.{AreSizesBy}
 use Rattle.papergrid_layout.specs.Certificates.{IsCertifiedBy, IsSolutionBy, solution_of}
-use Rattle.papergrid_layout.specs.Tables.{IsTableOf, TableParts, view_of}
+use Rattle.papergrid_layout.specs.Tables.{view_of}
 use Rattle.papergrid_tracks.specs.declared.sizing.Sizing.{Sizing}
 use Rattle.papergrid_layout.specs.Places.{sized_table, total_along}
 use Rattle.papergrid_layout.proofs.PlaceLaws.{totals}
@@ -21,8 +21,7 @@ use Rattle.papergrid_layout.proofs.TotalLemmas.{room-of}
 use Rattle.papergrid_tracks.specs.declared.error.LayoutError.{LayoutError}
 use Rattle.papergrid_tracks.specs.declared.error.LayoutError.TheVariants as layout_errors
 use Rattle.papergrid_tracks.specs.declared.solution.Solved.{Solved}
-use Rattle.papergrid_draw.specs.Drawings.{Drawing, drawn_of}
-use Rattle.papergrid_draw.specs.Cells.{lines_at, text_lines}
+use Rattle.papergrid_draw.specs.Drawings.{Drawing}
 use Rattle.papergrid_draw.specs.Lined.{lined}
 use Rattle.papergrid_walk.specs.Measures.{text_measure}
 use Rattle.papergrid_config.specs.Laws.{IsConfiguredBy}
@@ -34,7 +33,6 @@ use Rattle.papergrid_builder.specs.Layouts.{AreFoundSizes, IsNoFoundTable, parts
 use Rattle.papergrid_builder.specs.Pictures.{IsDrawingOf, IsNotDrawn}
 use Rattle.papergrid_builder.specs.Told.{FoundTable, longest}
 use Rattle.papergrid_builder.specs.ForProofs.Kept.{found_of}
-use Rattle.papergrid_builder.specs.ForProofs.Texts.{rows_lent, texts_lent}
 use Rattle.papergrid_builder.specs.ForProofs.Sizes.{IsPictureRefused, IsUnfound, draw_refusal}
 use Rattle.papergrid_builder.specs.declared.error.BuilderError.{BuilderError}
 use Rattle.papergrid_builder.specs.declared.error.BuilderError.TheVariants as builder_errors

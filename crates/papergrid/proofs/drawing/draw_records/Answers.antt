@@ -1,6 +1,6 @@
 use Rattle.std.proofs.Common.{◌∙◌, ap, refl}
 use Rattle.std.proofs.lemmas.Result.{err_from_is_err_and}
-use Rattle.papergrid_text.specs.HeldRows.{column_count, rows_held}
+use Rattle.papergrid_text.specs.HeldRows.{column_count}
 use Rattle.papergrid_draw.specs.Margins.{printed}
 use Rattle.papergrid_draw.specs.Pictures.{texts_held}
 use Rattle.papergrid_draw.proofs.PictureLemmas.{drawing-told, drawn-so, refusal-told, room-with, unsized}

@@ -1,6 +1,5 @@
-use Rattle.std.proofs.Common.{◌∙◌, ◌++◌, ap, refl}
+use Rattle.std.proofs.Common.{◌∙◌, ap, refl}
 use Rattle.std.proofs.lemmas.Result.{err_from_is_err_and}
-use Rattle.papergrid_draw.specs.Lined.{lined}
 use Rattle.papergrid_draw.specs.Pictures.{Undrawn}
 use Rattle.papergrid_draw.proofs.PictureLemmas.{drawing-told, has-room, refusal-told, room-with}
 use Rattle.papergrid_builder.specs.Told.{longest}
