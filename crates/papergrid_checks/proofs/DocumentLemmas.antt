@@ -6,7 +6,7 @@ use Rattle.std.specs.Result.{is_ok}
 use Rattle.std.proofs.KnownBytes.{Appends-nil}
 use Rattle.papergrid_draw.specs.Drawings.{Drawing}
 use Rattle.papergrid_text.specs.Transfer.{IsTaken}
-use Rattle.papergrid_draw.specs.Sinks.{IsUndrawn}
+use Rattle.papergrid_draw.specs.Sinks.{IsUndrawn, WritesPicture}
 use Rattle.papergrid_draw.proofs.SinkLemmas.{undrawn-beginning}
 use Rattle.papergrid_draw.specs.declared.error.DrawError.{DrawError}
 use Rattle.papergrid_draw.specs.Lined.{lined}
@@ -43,11 +43,23 @@ module _ {W : Type 0} (contents : W → Option (List ℕ)) (has_failed has_stall
     | inr so ↦ inr (lined so.0, of-document document range so.0 so.1, so.2)
   ]
 
-  pub picture-of : {T D : Type 0} (drawn : Result T DrawError) (told : Result T D) → is_ok told ≡ is_ok drawn → OnOk drawn IsPictured
-      → OnOk told ((output : List ℕ) × IsOfDocument output × Appends (contents old) (contents new) output)
-  picture-of drawn told same is = on-ok pictured drawn told same is
+  -- what the picture's clause says where it was written, and where it was not
+  abbrev pub IsWritten : {T : Type 0} → Result T DrawError → Type 0
+  IsWritten = WritesPicture contents has_failed has_stalled (IsDocumentDrawing document ByShares) (IsDocumentFault document ByShares) lined old new
 
-  pub begun-of : {T D : Type 0} (drawn : Result T DrawError) (told : Result T D) → is_ok told ≡ is_ok drawn → IfErr drawn IsNoPicture
+  pub written-of : {T : Type 0} (drawn : Result T DrawError) → IsWritten drawn → OnOk drawn IsPictured
+  written-of (Ok x) is = is
+  written-of (Err e) is = tt
+
+  pub undrawn-of : {T : Type 0} (drawn : Result T DrawError) → IsWritten drawn → IfErr drawn IsNoPicture
+  undrawn-of (Ok x) is = tt
+  undrawn-of (Err e) is = is
+
+  pub picture-of : {T D : Type 0} (drawn : Result T DrawError) (told : Result T D) → is_ok told ≡ is_ok drawn → IsWritten drawn
+      → OnOk told ((output : List ℕ) × IsOfDocument output × Appends (contents old) (contents new) output)
+  picture-of drawn told same is = on-ok pictured drawn told same (written-of drawn is)
+
+  pub begun-of : {T D : Type 0} (drawn : Result T DrawError) (told : Result T D) → is_ok told ≡ is_ok drawn → IsWritten drawn
       → OnErr told (AppendsBeginning IsOfDocument (contents old) (contents new))
   begun-of (Err e) (Err d) same is = begun e is
   begun-of (Ok x) (Err d) same is = absurd (let none : ⊥ = cc in none)

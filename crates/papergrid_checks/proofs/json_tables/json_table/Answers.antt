@@ -7,10 +7,10 @@ pub returns-clause-picture : goal.returns-clause-picture
 returns-clause-picture g c =
     let range : AreInRange c.in_ok-document.document.settings.items = search rules in
     picture-of g.W.Sink.contents g.W.Sink.has_failed g.W.Sink.has_stalled c.args.writer.now c.draw_document.new.sink c.in_ok-document.document range
-    c.draw_document.result c.map_err-2.result c.map_err-2.ensures.variant c.draw_document.ensures.picture
+    c.draw_document.result c.map_err-2.result c.map_err-2.ensures.variant c.draw_document.ensures
 
 pub returns-clause-beginning : goal.returns-clause-beginning
 returns-clause-beginning g c =
     let range : AreInRange c.in_ok-document.document.settings.items = search rules in
     begun-of g.W.Sink.contents g.W.Sink.has_failed g.W.Sink.has_stalled c.args.writer.now c.draw_document.new.sink c.in_ok-document.document range
-    c.draw_document.result c.map_err-2.result c.map_err-2.ensures.variant c.draw_document.ensures.undrawn
+    c.draw_document.result c.map_err-2.result c.map_err-2.ensures.variant c.draw_document.ensures
