@@ -1,6 +1,6 @@
 -- What a call leaves written that draws a document and makes another error of its own.
 use Rattle.std.proofs.Common.{◌≡◌, ℕ, Bool, List, [], Option, inl, inr, refl, subst, sym}
-use Rattle.std.specs.Prelude.{Err, IfErr, Ok, OnErr, OnOk, Result}
+use Rattle.std.specs.Prelude.{Err, Ok, OnErr, OnOk, Result}
 use Rattle.std.specs.Io.KnownBytes.{Appends}
 use Rattle.std.specs.Result.{is_ok}
 use Rattle.std.proofs.KnownBytes.{Appends-nil}
@@ -43,17 +43,13 @@ module _ {W : Type 0} (contents : W → Option (List ℕ)) (has_failed has_stall
     | inr so ↦ inr (lined so.0, of-document document range so.0 so.1, so.2)
   ]
 
-  -- what the picture's clause says where it was written, and where it was not
+  -- what the clause of a drawn document says
   abbrev pub IsWritten : {T : Type 0} → Result T DrawError → Type 0
   IsWritten = WritesPicture contents has_failed has_stalled (IsDocumentDrawing document ByShares) (IsDocumentFault document ByShares) lined old new
 
-  pub written-of : {T : Type 0} (drawn : Result T DrawError) → IsWritten drawn → OnOk drawn IsPictured
+  written-of : {T : Type 0} (drawn : Result T DrawError) → IsWritten drawn → OnOk drawn IsPictured
   written-of (Ok x) is = is
   written-of (Err e) is = tt
-
-  pub undrawn-of : {T : Type 0} (drawn : Result T DrawError) → IsWritten drawn → IfErr drawn IsNoPicture
-  undrawn-of (Ok x) is = tt
-  undrawn-of (Err e) is = is
 
   pub picture-of : {T D : Type 0} (drawn : Result T DrawError) (told : Result T D) → is_ok told ≡ is_ok drawn → IsWritten drawn
       → OnOk told ((output : List ℕ) × IsOfDocument output × Appends (contents old) (contents new) output)
