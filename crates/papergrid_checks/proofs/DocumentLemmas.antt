@@ -17,11 +17,6 @@ use Rattle.papergrid_json.specs.declared.document.Document.{Document}
 use Rattle.papergrid_checks.specs.Documents.{IsOfDocument}
 use Rattle.papergrid_checks.specs.Written.{AppendsBeginning}
 
-on-ok : {T E D P Q : Type 0} → (P → Q) → (drawn : Result T E) (told : Result T D) → is_ok told ≡ is_ok drawn → OnOk drawn P → OnOk told Q
-on-ok f (Ok x) (Ok y) same is = f is
-on-ok f (Err e) (Ok y) same is = absurd (let none : ⊥ = cc in none)
-on-ok f drawn (Err d) same is = tt
-
 of-document : (document : Document) → AreInRange document.settings.items → (d : Drawing) → IsDocumentDrawing document ByShares d → IsOfDocument (lined d)
 of-document document range d is = (document, range, (d, is, refl))
 
@@ -47,13 +42,11 @@ module _ {W : Type 0} (contents : W → Option (List ℕ)) (has_failed has_stall
   abbrev pub IsWritten : {T : Type 0} → Result T DrawError → Type 0
   IsWritten = WritesPicture contents has_failed has_stalled (IsDocumentDrawing document ByShares) (IsDocumentFault document ByShares) lined old new
 
-  written-of : {T : Type 0} (drawn : Result T DrawError) → IsWritten drawn → OnOk drawn IsPictured
-  written-of (Ok x) is = is
-  written-of (Err e) is = tt
-
   pub picture-of : {T D : Type 0} (drawn : Result T DrawError) (told : Result T D) → is_ok told ≡ is_ok drawn → IsWritten drawn
       → OnOk told ((output : List ℕ) × IsOfDocument output × Appends (contents old) (contents new) output)
-  picture-of drawn told same is = on-ok pictured drawn told same (written-of drawn is)
+  picture-of (Ok x) (Ok y) same is = pictured is
+  picture-of (Err e) (Ok y) same is = absurd (let none : ⊥ = cc in none)
+  picture-of drawn (Err d) same is = tt
 
   pub begun-of : {T D : Type 0} (drawn : Result T DrawError) (told : Result T D) → is_ok told ≡ is_ok drawn → IsWritten drawn
       → OnErr told (AppendsBeginning IsOfDocument (contents old) (contents new))
