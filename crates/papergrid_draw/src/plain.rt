@@ -5,7 +5,7 @@ ghost use Rattle.std.specs.Prelude.{◌≡◌, ◌↔◌, ◌+◌, ◌++◌, ◌
 ghost use Rattle.papergrid_draw.specs.Bytes.{pieces_bytes, rule_bytes};
 ghost use Rattle.papergrid_draw.specs.Contents.{block_at, content};
 ghost use Rattle.papergrid_draw.specs.Drawn.{crossing_stretch, rule_line, text_line};
-ghost use Rattle.papergrid_draw.specs.ForProofs.FilledFrames.{filled, parts_of};
+ghost use Rattle.papergrid_draw.specs.ForProofs.FilledFrames.{filled, filled_table};
 ghost use Rattle.papergrid_draw.specs.ForProofs.Pages.{AreSlots, Texts, drawing_of, text_start};
 ghost use Rattle.papergrid_draw.specs.ForProofs.Pens.{AddsStretches};
 ghost use Rattle.papergrid_draw.specs.ForProofs.Plain.{HasCommonRule, IsCommonRule, IsPlain};
@@ -114,9 +114,9 @@ where
 {
     /// Adds the text line of a row that is one line high.
     pub fn push_plain_text_line(&self, row: usize, line: &mut String) -> Result<(), AllocError>
-        requires plain { IsPlain (parts_of self.now).config }
-        requires row_in { row < length (parts_of self.now).heights }
-        requires low { slice_index (parts_of self.now).heights row ≡ 1 }
+        requires plain { IsPlain (filled_table self.now).config }
+        requires row_in { row < length (filled_table self.now).heights }
+        requires low { slice_index (filled_table self.now).heights row ≡ 1 }
         ensures { OnOk result (string_bytes line.new ≡ string_bytes line.old
             ++ pieces_bytes (text_line (filled S.lines S.color self.now) row 0)) }
     {
@@ -132,10 +132,10 @@ where
 
     /// Adds the cell at a position of a row that is one line high.
     fn push_cell(&self, position: Position, line: &mut String) -> Result<(), AllocError>
-        requires plain { IsPlain (parts_of self.now).config }
-        requires row_in { position.row < length (parts_of self.now).heights }
-        requires col_in { position.col < length (parts_of self.now).widths }
-        requires low { slice_index (parts_of self.now).heights position.row ≡ 1 }
+        requires plain { IsPlain (filled_table self.now).config }
+        requires row_in { position.row < length (filled_table self.now).heights }
+        requires col_in { position.col < length (filled_table self.now).widths }
+        requires low { slice_index (filled_table self.now).heights position.row ≡ 1 }
         ensures { OnOk result (string_bytes line.new ≡ string_bytes line.old
             ++ pieces_bytes (content (block_at (filled S.lines S.color self.now) position) 0)) }
     {
@@ -154,8 +154,8 @@ where
 
     /// The cells of a row, before its first text line.
     pub fn plain_slots(&self, row: usize) -> Result<Vec<Slot<'a, S::Cell>>, AllocError>
-        requires plain { IsPlain (parts_of self.now).config }
-        requires row_in { row < length (parts_of self.now).heights }
+        requires plain { IsPlain (filled_table self.now).config }
+        requires row_in { row < length (filled_table self.now).heights }
         ensures { let d = filled S.lines S.color self.now in
             IfOk result (λ slots. AreSlots d row (λ _. text_start d row) slots.items) }
     {

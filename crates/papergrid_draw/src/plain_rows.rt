@@ -2,7 +2,7 @@
 
 ghost use Rattle.std.specs.Prelude.{◌≡◌, ◌+◌, ◌<◌, ◌≤◌, ◌∷◌, [], OnOk, length, slice_index};
 ghost use Rattle.papergrid_draw.specs.Drawn.{TextLine, drawn_lines, row_lines, rule_lines, text_line};
-ghost use Rattle.papergrid_draw.specs.ForProofs.FilledFrames.{filled, parts_of};
+ghost use Rattle.papergrid_draw.specs.ForProofs.FilledFrames.{filled, filled_table};
 ghost use Rattle.papergrid_draw.specs.ForProofs.Pages.{Texts, drawing_of, row_start, text_start};
 ghost use Rattle.papergrid_draw.specs.ForProofs.Plain.{HasCommonRule, IsPlain};
 ghost use Rattle.papergrid_draw.specs.ForProofs.Sheets.{WritesLines, margined, first_text_lines};
@@ -28,7 +28,7 @@ where
         sheet: &mut Sheet,
         writer: &mut W,
     ) -> Result<(), DrawError>
-        requires plain { IsPlain (parts_of self.now).config }
+        requires plain { IsPlain (filled_table self.now).config }
         requires start { sheet.old.written ≡ 0 }
         ensures { let d = filled S.lines S.color self.now in
             WritesLines D.takes D.breaks writer.old writer.new
@@ -50,14 +50,14 @@ where
         sheet: &mut Sheet,
         writer: &mut W,
     ) -> Result<(), DrawError>
-        requires plain { IsPlain (parts_of self.now).config }
-        requires common { HasCommonRule (parts_of self.now) common.old }
-        requires row_in { row < length (parts_of self.now).heights }
+        requires plain { IsPlain (filled_table self.now).config }
+        requires common { HasCommonRule (filled_table self.now) common.old }
+        requires row_in { row < length (filled_table self.now).heights }
         requires start { sheet.old.written ≡ row_start (filled S.lines S.color self.now) row }
         ensures lines { let d = filled S.lines S.color self.now in
             WritesLines D.takes D.breaks writer.old writer.new sheet.old.begun sheet.new.begun
             (margined d (row_start d row) (row_lines d row)) result }
-        ensures common { OnOk result (HasCommonRule (parts_of self.now) common.new) }
+        ensures common { OnOk result (HasCommonRule (filled_table self.now) common.new) }
         ensures written { OnOk result
             (sheet.new.written ≡ row_start (filled S.lines S.color self.now) (row + 1)) }
     {
@@ -75,9 +75,9 @@ where
         sheet: &mut Sheet,
         writer: &mut W,
     ) -> Result<(), DrawError>
-        requires plain { IsPlain (parts_of self.now).config }
-        requires row_in { row < length (parts_of self.now).heights }
-        requires low { slice_index (parts_of self.now).heights row ≡ 1 }
+        requires plain { IsPlain (filled_table self.now).config }
+        requires row_in { row < length (filled_table self.now).heights }
+        requires low { slice_index (filled_table self.now).heights row ≡ 1 }
         requires start { sheet.old.written ≡ text_start (filled S.lines S.color self.now) row }
         ensures lines { let d = filled S.lines S.color self.now in
             WritesLines D.takes D.breaks writer.old writer.new sheet.old.begun sheet.new.begun
@@ -97,8 +97,8 @@ where
         sheet: &mut Sheet,
         writer: &mut W,
     ) -> Result<(), DrawError>
-        requires plain { IsPlain (parts_of self.now).config }
-        requires row_in { row < length (parts_of self.now).heights }
+        requires plain { IsPlain (filled_table self.now).config }
+        requires row_in { row < length (filled_table self.now).heights }
         requires start { sheet.old.written ≡ text_start (filled S.lines S.color self.now) row }
         ensures lines { let d = filled S.lines S.color self.now in
             WritesLines D.takes D.breaks writer.old writer.new sheet.old.begun sheet.new.begun

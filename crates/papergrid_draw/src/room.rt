@@ -4,7 +4,7 @@ ghost use Rattle.std.specs.Prelude.{◌≡◌, ◌+◌, ◌-◌, ◌^◌, ◌<�
 ghost use Rattle.papergrid_config.specs.Grids.{spanned_grid};
 ghost use Rattle.papergrid_walk.specs.ForProofs.Shown.{Shows};
 ghost use Rattle.papergrid_draw.specs.Faults.{AllHaveRoom};
-ghost use Rattle.papergrid_draw.specs.ForProofs.FilledFrames.{filled, parts_of};
+ghost use Rattle.papergrid_draw.specs.ForProofs.FilledFrames.{filled, filled_table};
 ghost use Rattle.papergrid_draw.specs.ForProofs.Sheets.{HaveRoomBefore, IsRoomFault};
 
 use crate::error::DrawError;
@@ -57,12 +57,12 @@ where
 
     /// Tells whether each visible cell of a row has room, where those above it have.
     fn check_row(&self, sweep: &mut Sweep, row: usize) -> Result<(), DrawError>
-        requires row_in { row < length (parts_of self.now).heights }
+        requires row_in { row < length (filled_table self.now).heights }
         requires row_fits { row < 2 ^ 64 - 1 }
-        requires shows { Shows (spanned_grid (parts_of self.now).config) sweep.old row 0 }
+        requires shows { Shows (spanned_grid (filled_table self.now).config) sweep.old row 0 }
         requires before { HaveRoomBefore (filled S.lines S.color self.now) row 0 }
         ensures shows { OnOk result
-            (Shows (spanned_grid (parts_of self.now).config) sweep.new (row + 1) 0) }
+            (Shows (spanned_grid (filled_table self.now).config) sweep.new (row + 1) 0) }
         ensures ok { OnOk result
             (HaveRoomBefore (filled S.lines S.color self.now) (row + 1) 0) }
         ensures err { IfErr result (IsRoomFault (filled S.lines S.color self.now)) }
@@ -75,15 +75,15 @@ where
 
     /// Tells whether the cell at a position has room, if that is visible, where those before it have.
     fn check_cell(&self, sweep: &mut Sweep, position: Position) -> Result<(), DrawError>
-        requires row_in { position.row < length (parts_of self.now).heights }
-        requires col_in { position.col < length (parts_of self.now).widths }
+        requires row_in { position.row < length (filled_table self.now).heights }
+        requires col_in { position.col < length (filled_table self.now).widths }
         requires row_fits { position.row < 2 ^ 64 - 1 }
         requires col_fits { position.col < 2 ^ 64 - 1 }
-        requires shows { Shows (spanned_grid (parts_of self.now).config) sweep.old
+        requires shows { Shows (spanned_grid (filled_table self.now).config) sweep.old
             position.row position.col }
         requires before { HaveRoomBefore (filled S.lines S.color self.now)
             position.row position.col }
-        ensures shows { OnOk result (Shows (spanned_grid (parts_of self.now).config) sweep.new
+        ensures shows { OnOk result (Shows (spanned_grid (filled_table self.now).config) sweep.new
             position.row (position.col + 1)) }
         ensures ok { OnOk result (HaveRoomBefore (filled S.lines S.color self.now)
             position.row (position.col + 1)) }

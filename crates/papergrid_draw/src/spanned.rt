@@ -2,7 +2,7 @@
 
 ghost use Rattle.std.specs.Prelude.{◌≡◌, ◌+◌, ◌-◌, ◌<◌, IfOk, OnOk, length};
 ghost use Rattle.papergrid_draw.specs.Drawn.{drawn_lines, row_lines};
-ghost use Rattle.papergrid_draw.specs.ForProofs.FilledFrames.{filled, parts_of};
+ghost use Rattle.papergrid_draw.specs.ForProofs.FilledFrames.{filled, filled_table};
 ghost use Rattle.papergrid_draw.specs.ForProofs.Pages.{AreSlotsSet};
 ghost use Rattle.papergrid_draw.specs.ForProofs.Sheets.{AtRow, WritesLines, margined};
 
@@ -48,7 +48,7 @@ where
         sheet: &mut Sheet,
         writer: &mut W,
     ) -> Result<(), DrawError>
-        requires row_in { row < length (parts_of self.now).heights }
+        requires row_in { row < length (filled_table self.now).heights }
         requires comes { AtRow (filled S.lines S.color self.now) row sheet.old slots.old }
         ensures lines { let d = filled S.lines S.color self.now in
             WritesLines D.takes D.breaks writer.old writer.new sheet.old.begun sheet.new.begun
@@ -63,10 +63,10 @@ where
 
     /// Takes the cells of a row.
     fn set_row(&self, slots: &mut [Slot<'a, S::Cell>], row: usize) -> Result<(), AllocError>
-        requires row_in { row < length (parts_of self.now).heights }
+        requires row_in { row < length (filled_table self.now).heights }
         requires comes { AreSlotsSet (filled S.lines S.color self.now) row 0 slots.old }
         ensures { OnOk result (AreSlotsSet (filled S.lines S.color self.now)
-            row (length (parts_of self.now).widths) slots.new) }
+            row (length (filled_table self.now).widths) slots.new) }
     {
         let (frame, cells) = (self.frame, self.cells);
         for col in 0..frame.shape.1 {

@@ -26,7 +26,7 @@ struct Point<'a, D> {
 }
 
 impl<'a, D: Dimension> Point<'a, D> {
-    ghost use Rattle.papergrid_layout.specs.ForProofs.Points.{IsReached, table_of};
+    ghost use Rattle.papergrid_layout.specs.ForProofs.Points.{IsAround, point_table};
 
     /// Whether the cell at a position, none below or right of the one within, stands over the point. Most do
     /// not by their spans alone.
@@ -35,8 +35,8 @@ impl<'a, D: Dimension> Point<'a, D> {
         requires rows { HasSizes (D.has_row self.now.dimension.now) self.now.shape.0 }
         requires before { (position.row ≤ self.now.within.row)
             × (position.col ≤ self.now.within.col) }
-        requires reach { IsReached D.width_of D.height_of self.now }
-        ensures { let table = table_of D.width_of D.height_of self.now in
+        requires reach { IsAround D.width_of D.height_of self.now }
+        ensures { let table = point_table D.width_of D.height_of self.now in
             IsTrue result ↔ StandsOver table self.now.column self.now.line position }
     {
         if self.within.col - position.col >= self.config.span(Direction::Columns, position) {
@@ -56,8 +56,8 @@ impl<'a, D: Dimension> Point<'a, D> {
         requires columns { HasSizes (D.has_column self.now.dimension.now) self.now.shape.1 }
         requires rows { HasSizes (D.has_row self.now.dimension.now) self.now.shape.0 }
         requires before { row ≤ self.now.within.row }
-        requires reach { IsReached D.width_of D.height_of self.now }
-        ensures { let table = table_of D.width_of D.height_of self.now in
+        requires reach { IsAround D.width_of D.height_of self.now }
+        ensures { let table = point_table D.width_of D.height_of self.now in
             let IsUnder = StandsOver table self.now.column self.now.line in
             MatchOption result ((q : Position) → q.row ≡ row → IsUnder q → ⊥)
             (λ p. (p.row ≡ row) × IsUnder p × ((q : Position) → q.row ≡ row → q.col < p.col →
@@ -76,8 +76,8 @@ impl<'a, D: Dimension> Point<'a, D> {
     fn first(&self) -> Option<Position>
         requires columns { HasSizes (D.has_column self.now.dimension.now) self.now.shape.1 }
         requires rows { HasSizes (D.has_row self.now.dimension.now) self.now.shape.0 }
-        requires reach { IsReached D.width_of D.height_of self.now }
-        ensures { let table = table_of D.width_of D.height_of self.now in
+        requires reach { IsAround D.width_of D.height_of self.now }
+        ensures { let table = point_table D.width_of D.height_of self.now in
             IsFirstOver table self.now.column self.now.line result }
     {
         for row in 0..=self.within.row {

@@ -24,7 +24,7 @@ pub struct Ruler<'a, D, S> {
 }
 
 impl<'a, D: Dimension, S: ConfigView> Ruler<'a, D, S> {
-    ghost use Rattle.papergrid_layout.specs.ForProofs.Rulers.{HasTracks, has_track, ruler_line, ruler_size};
+    ghost use Rattle.papergrid_layout.specs.ForProofs.Rulers.{HasTracks, has_track, ruler_line, ruler_size, ruler_total};
 
     /// The width of a column, or the height of a row.
     fn size(&self, i: usize) -> usize
@@ -103,9 +103,7 @@ impl<'a, D: Dimension, S: ConfigView> Ruler<'a, D, S> {
     /// The total of all sizes and lines, if it fits.
     pub fn total(&self) -> Option<usize>
         requires { HasTracks D.has_column D.has_row self.now }
-        ensures { let size = ruler_size D.width_of D.height_of self.now in
-            let line = ruler_line S.grid self.now in
-            let found = total size line self.now.count in
+        ensures { let found = ruler_total D.width_of D.height_of S.grid self.now in
             SomeIff result (found < 2 ^ 64) found }
     {
         self.offset_from(0, self.line(0), self.count)
@@ -114,9 +112,7 @@ impl<'a, D: Dimension, S: ConfigView> Ruler<'a, D, S> {
     /// Where each track begins and ends, where the total fits.
     pub fn marks(&self, alloc: Global) -> Result<Marks, AllocError>
         requires sizes { HasTracks D.has_column D.has_row self.now }
-        requires fits { let size = ruler_size D.width_of D.height_of self.now in
-            let line = ruler_line S.grid self.now in
-            total size line self.now.count < 2 ^ 64 }
+        requires fits { ruler_total D.width_of D.height_of S.grid self.now < 2 ^ 64 }
         ensures { let size = ruler_size D.width_of D.height_of self.now in
             let line = ruler_line S.grid self.now in
             IfOk result (AreMarks size line self.now.count) }
@@ -137,9 +133,7 @@ impl<'a, D: Dimension, S: ConfigView> Ruler<'a, D, S> {
     /// where it lies before the first begin or not before the end of the table.
     pub fn number_at(&self, point: usize) -> Option<usize>
         requires sizes { HasTracks D.has_column D.has_row self.now }
-        requires fits { let size = ruler_size D.width_of D.height_of self.now in
-            let line = ruler_line S.grid self.now in
-            total size line self.now.count < 2 ^ 64 }
+        requires fits { ruler_total D.width_of D.height_of S.grid self.now < 2 ^ 64 }
         ensures { let size = ruler_size D.width_of D.height_of self.now in
             let line = ruler_line S.grid self.now in
             MatchOption result ((point < offset size line 0)

@@ -11,9 +11,9 @@ LiesInEach table x y within =
     (q : Position) → StandsOver table x y q → IsInRectangle table.grid.span q within
 
 -- the table of a point, by the widths and heights of its dimension
-abbrev pub table_of : {D : Type 0} → (D → ℕ → ℕ) → (D → ℕ → ℕ) → Point D → TableView
-table_of width_of height_of point = table_by point.config.now (width_of point.dimension.now) (height_of point.dimension.now) point.shape
+abbrev pub point_table : {D : Type 0} → (D → ℕ → ℕ) → (D → ℕ → ℕ) → Point D → TableView
+point_table width_of height_of point = table_by point.config.now (width_of point.dimension.now) (height_of point.dimension.now) point.shape
 
 -- the position lies within the rectangle of each cell that stands over the point
-abbrev pub IsReached : {D : Type 0} → (D → ℕ → ℕ) → (D → ℕ → ℕ) → Point D → Type 0
-IsReached width_of height_of point = LiesInEach (table_of width_of height_of point) point.column point.line point.within
+abbrev pub IsAround : {D : Type 0} → (D → ℕ → ℕ) → (D → ℕ → ℕ) → Point D → Type 0
+IsAround width_of height_of point = LiesInEach (point_table width_of height_of point) point.column point.line point.within

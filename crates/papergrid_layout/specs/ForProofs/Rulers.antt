@@ -3,7 +3,7 @@ use Rattle.std.specs.Prelude.{ℕ, Bool}
 use Rattle.papergrid_values.specs.declared.direction.Direction.{Direction}
 use Rattle.papergrid_values.specs.declared.direction.Direction.TheVariants.{Columns, Rows}
 use Rattle.papergrid_maps.specs.Grids.{Grid}
-use Rattle.papergrid_layout.specs.Places.{size_along}
+use Rattle.papergrid_layout.specs.Places.{size_along, total}
 use Rattle.papergrid_layout.specs.Tables.{HasSizes}
 use Rattle.papergrid_layout.specs.declared.ruler.Ruler.{Ruler}
 
@@ -27,3 +27,7 @@ ruler_size width_of height_of ruler = size_along (width_of ruler.dimension.now) 
 -- whether there is a line before it, or after the last
 abbrev pub ruler_line : {D S : Type 0} → (S → Grid) → Ruler D S → ℕ → Bool
 ruler_line grid ruler = (grid ruler.settings.now).draws ruler.direction ruler.count
+
+-- all sizes and lines, added up
+abbrev pub ruler_total : {D S : Type 0} → (D → ℕ → ℕ) → (D → ℕ → ℕ) → (S → Grid) → Ruler D S → ℕ
+ruler_total width_of height_of grid ruler = total (ruler_size width_of height_of ruler) (ruler_line grid ruler) ruler.count

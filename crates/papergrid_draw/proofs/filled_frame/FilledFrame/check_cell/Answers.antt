@@ -6,25 +6,25 @@ use Rattle.papergrid_walk.specs.ForProofs.Shown.{anchor_in}
 use Rattle.papergrid_layout.specs.Tables.{view_of}
 use Rattle.papergrid_draw.specs.Contents.{FitsPlace, block_at}
 use Rattle.papergrid_draw.specs.Drawings.{layout_of}
-use Rattle.papergrid_draw.specs.ForProofs.FilledFrames.{filled, parts_of}
+use Rattle.papergrid_draw.specs.ForProofs.FilledFrames.{filled, filled_table}
 use Rattle.papergrid_draw.specs.ForProofs.Sheets.{told_texts}
 use Rattle.papergrid_draw.proofs.RoomLemmas.{first-without, found-block, room-more, shown-of}
 use Rattle.papergrid_draw.proofs.filled_frame.FilledFrame.check_cell.Goals as goal
 
 pub returns-then-is_none-clause-shows : goal.returns-then-is_none-clause-shows
-returns-then-is_none-clause-shows g c = c.in_ok-visible_anchor.ensures.later (spanned_grid (parts_of c.args.self.now).config) c.requires.shows
+returns-then-is_none-clause-shows g c = c.in_ok-visible_anchor.ensures.later (spanned_grid (filled_table c.args.self.now).config) c.requires.shows
 
 pub returns-then-is_none-clause-ok : goal.returns-then-is_none-clause-ok
 returns-then-is_none-clause-ok g c =
     let p = c.args.position in
-    let table = view_of (parts_of c.args.self.now) in
+    let table = view_of (filled_table c.args.self.now) in
     let hidden : table.grid.shows p ≡ false =
     shown-of (table.grid.shows p) (anchor_in table.grid p) c.in_ok-visible_anchor.field-0 false (c.in_ok-visible_anchor.ensures.visible table.grid c.requires.shows) c.if-is_none.ensures in
     room-more (filled g.S.Cells.lines g.S.Cells.color c.args.self.now) p.row p.col c.requires.before
     (λ none. false≢true (sym hidden ∙ none.is_cell.visible))
 
 pub returns-in_default-clause-shows : goal.returns-in_default-clause-shows
-returns-in_default-clause-shows g c = c.in_ok-visible_anchor.ensures.later (spanned_grid (parts_of c.args.self.now).config) c.requires.shows
+returns-in_default-clause-shows g c = c.in_ok-visible_anchor.ensures.later (spanned_grid (filled_table c.args.self.now).config) c.requires.shows
 
 pub returns-in_default-clause-ok : goal.returns-in_default-clause-ok
 returns-in_default-clause-ok g c =
@@ -45,7 +45,7 @@ returns-then-not-has_room-clause-err g c =
     first-without d p (record { is_cell = made.0; lacks = λ room. false≢true (told_none.1 (subst FitsPlace (sym same) room)) }) c.requires.before
 
 pub returns-clause-shows : goal.returns-clause-shows
-returns-clause-shows g c = c.in_ok-visible_anchor.ensures.later (spanned_grid (parts_of c.args.self.now).config) c.requires.shows
+returns-clause-shows g c = c.in_ok-visible_anchor.ensures.later (spanned_grid (filled_table c.args.self.now).config) c.requires.shows
 
 pub returns-clause-ok : goal.returns-clause-ok
 returns-clause-ok g c =

@@ -3,7 +3,7 @@ use Rattle.papergrid_layout.specs.Places.{total_along}
 use Rattle.papergrid_layout.specs.Tables.{view_of}
 use Rattle.papergrid_values.specs.declared.direction.Direction.TheVariants.{Rows}
 use Rattle.papergrid_draw.specs.Drawn.{TextLine, text_line}
-use Rattle.papergrid_draw.specs.ForProofs.FilledFrames.{filled, parts_of}
+use Rattle.papergrid_draw.specs.ForProofs.FilledFrames.{filled, filled_table}
 use Rattle.papergrid_draw.specs.ForProofs.Pages.{text_start}
 use Rattle.papergrid_draw.specs.ForProofs.Sheets.{WritesLines, margined, told_texts}
 use Rattle.papergrid_draw.proofs.SheetLemmas.{lines-refused}
@@ -20,7 +20,7 @@ pub end_beside-requires : goal.end_beside-requires
 end_beside-requires g c =
     let d = filled g.S.Cells.lines g.S.Cells.color c.args.self.now in
     let some : 0 < d.heights c.args.row = omega (arith, c.requires.low) in
-    let within : text_start d c.args.row + 0 < total_along (view_of (parts_of c.args.self.now)) Rows = text-within d c.args.row 0 c.requires.row_in some in
+    let within : text_start d c.args.row + 0 < total_along (view_of (filled_table c.args.self.now)) Rows = text-within d c.args.row 0 c.requires.row_in some in
     omega (arith, within, c.args.self.now.frame.now.read.fit, c.requires.start, c.in_ok-begin_beside.ensures.written)
 
 pub returns-clause-lines : goal.returns-clause-lines

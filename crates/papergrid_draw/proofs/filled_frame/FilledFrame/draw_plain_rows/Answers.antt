@@ -2,7 +2,7 @@ use Rattle.std.proofs.Common.{◌≡◌, ◌<◌, Ok, length, ap, refl, subst, s
 use Rattle.std.proofs.lemmas.Option.{none-some}
 use Rattle.std.proofs.lemmas.Result.{err_from_is_err_and}
 use Rattle.papergrid_draw.specs.Drawn.{rule_lines}
-use Rattle.papergrid_draw.specs.ForProofs.FilledFrames.{filled, parts_of}
+use Rattle.papergrid_draw.specs.ForProofs.FilledFrames.{filled, filled_table}
 use Rattle.papergrid_draw.specs.ForProofs.Pages.{row_start}
 use Rattle.papergrid_draw.specs.ForProofs.Sheets.{WritesLines, margined, told_texts}
 use Rattle.papergrid_draw.proofs.SheetLemmas.{lines-none}
@@ -44,7 +44,7 @@ returns g c =
     let texts = told_texts g.S.Cells.lines g.S.Cells.color c.args.self.now.cells.now in
     let d = filled g.S.Cells.lines g.S.Cells.color c.args.self.now in
     let last : c.loop-row.row ≡ c.args.self.now.frame.now.shape.0 = omega arith in
-    let end : c.loop-row.row ≡ length (parts_of c.args.self.now).heights = omega (arith, ap (λ s. s.0) c.args.self.now.frame.now.read.shape_is) in
+    let end : c.loop-row.row ≡ length (filled_table c.args.self.now).heights = omega (arith, ap (λ s. s.0) c.args.self.now.frame.now.read.shape_is) in
     drawn-all d g.D.Delivery.takes g.D.Delivery.breaks _ _ _ _ _ _ (row_start d c.loop-row.row) c.loop-row.row tt _ end refl c.loop-row.invariant.wrote
     (subst (λ r. WritesLines g.D.Delivery.takes g.D.Delivery.breaks c.loop-row.writer c.draw_plain_rule.new.writer c.loop-row.sheet.begun c.draw_plain_rule.new.sheet.begun
     (margined d (row_start d r) (rule_lines d r)) c.draw_plain_rule.result) (sym last) (c.draw_plain_rule.ensures.lines texts))

@@ -7,7 +7,7 @@ use Rattle.papergrid_layout.specs.Places.{length_along}
 use Rattle.papergrid_draw.specs.Bytes.{pieces_bytes}
 use Rattle.papergrid_draw.specs.Contents.{content, look_of}
 use Rattle.papergrid_draw.specs.Drawings.{layout_of}
-use Rattle.papergrid_draw.specs.ForProofs.FilledFrames.{filled, parts_of}
+use Rattle.papergrid_draw.specs.ForProofs.FilledFrames.{filled, filled_table}
 use Rattle.papergrid_draw.proofs.BlankLemmas.{single_is}
 use Rattle.papergrid_draw.proofs.PlainLemmas.{plain-height, plain-width}
 use Rattle.papergrid_draw.proofs.filled_frame.FilledFrame.push_cell.Goals as goal
@@ -22,8 +22,8 @@ returns-in-None-Some g c =
     let color = sym c.in-None-Some.ensures in
     let width : c.get_width-width.result ≡ length_along (layout_of d) Columns p = c.get_width-width.ensures ∙ sym (plain-width d c.requires.plain p) in
     let height : 1 ≡ length_along (layout_of d) Rows p = sym (plain-height d c.requires.plain p ∙ c.requires.low) in
-    on_ok_weaker c.push.result (λ added. added (look_of (parts_of c.args.self.now).config p) between horizontal
-    ∙ (λ i. string_bytes c.args.line.now ++ pieces_bytes (content (record { look = look_of (parts_of c.args.self.now).config p; lines = lines i; color = color i; width = width i; height = height i }) 0)))
+    on_ok_weaker c.push.result (λ added. added (look_of (filled_table c.args.self.now).config p) between horizontal
+    ∙ (λ i. string_bytes c.args.line.now ++ pieces_bytes (content (record { look = look_of (filled_table c.args.self.now).config p; lines = lines i; color = color i; width = width i; height = height i }) 0)))
     c.push.ensures
 
 pub returns : goal.returns
