@@ -237,7 +237,6 @@ impl<'a> Table<'a> {
     }
 
     /// The column and the row around a point: the rectangle of each cell that stands over it has them.
-    #[inline(always)]
     fn position_around(&self, column: usize, line: usize) -> Option<Position>
         ensures { let table = view_of self.now in
             MatchOption result (IsFirstOver table column line None)
