@@ -7,8 +7,8 @@ use Rattle.papergrid_draw.specs.declared.filled_frame.FilledFrame.{FilledFrame}
 
 -- its table
 abbrev pub filled_table : {C : Type 0} → FilledFrame C → TableParts
-filled_table page = page.frame.now.table.now
+filled_table frame = frame.frame.now.table.now
 
 -- its drawing
 abbrev pub filled : {C : Type 0} → (C → Position → List (List ℕ × ℕ)) → (C → Position → Option (List ℕ × List ℕ)) → FilledFrame C → Drawing
-filled lines color page = drawn_of lines color (filled_table page) page.cells.now
+filled lines color frame = drawn_of lines color (filled_table frame) frame.cells.now

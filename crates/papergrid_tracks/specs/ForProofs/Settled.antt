@@ -1,4 +1,4 @@
--- What is known once the cells of longer ranges were taken.
+-- What is known before the cells of longer ranges are taken, and once they were.
 use Rattle.std.specs.Prelude.{◌≡◌, ℕ, ◌+◌, ◌^◌, ◌<◌, ◌≤◌, Bool, false, List, None, length, slice_index, slice_index_or, All}
 use Rattle.papergrid_tracks.specs.declared.demand.Demand.{Demand}
 use Rattle.papergrid_tracks.specs.declared.demands.Demands.{Demands}
