@@ -1,7 +1,8 @@
 -- What the calls that tell a table something make of it, and why they are refused.
-use Rattle.std.specs.Prelude.{◌≡◌, ◌<◌, ⊤, ℕ, All, IsUtf8, List, false, true}
+use Rattle.std.specs.Prelude.{◌≡◌, ◌<◌, ⊤, ℕ, All, IsUtf8, List, None, Some, false, true}
 use Rattle.papergrid_config.specs.Applied.{is_in_range}
 use Rattle.papergrid_config.specs.declared.setting.Setting.{Setting}
+use Rattle.papergrid_json.specs.Documents.{setting_in}
 use Rattle.papergrid_builder.specs.Told.{ToldTable, rows_in, with_cell, with_more_rows, with_setting}
 use Rattle.papergrid_builder.specs.declared.error.BuilderError.{BuilderError}
 use Rattle.papergrid_builder.specs.declared.error.BuilderError.TheVariants.{BadSetting, Memory, NotAscii, NotText, OutOfRange}
@@ -21,11 +22,15 @@ IsNotTold setting OutOfRange = is_in_range setting ≡ false
 IsNotTold setting Memory = is_in_range setting ≡ true
 IsNotTold setting e = ⊥
 
--- why a JSON text is refused: it is no setting, or an allocation failed
-abbrev pub IsNoSetting : BuilderError → Type 0
-IsNoSetting BadSetting = ⊤
-IsNoSetting Memory = ⊤
-IsNoSetting e = ⊥
+-- the setting that a JSON text tells, as one more
+abbrev pub GainsSettingIn : List ℕ → ToldTable → ToldTable → Type 0
+GainsSettingIn text old new = (setting : Setting) × (setting_in text ≡ Some setting) × GainsSetting old new setting
+
+-- why a JSON text is refused: it tells no setting, or an allocation failed
+abbrev pub IsNoSetting : List ℕ → BuilderError → Type 0
+IsNoSetting text BadSetting = IsUtf8 text → setting_in text ≡ None
+IsNoSetting text Memory = ⊤
+IsNoSetting text e = ⊥
 
 -- one more cell, of a text in UTF-8
 abbrev pub GainsCell : List ℕ → ToldTable → ToldTable → Type 0

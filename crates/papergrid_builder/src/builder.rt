@@ -66,7 +66,7 @@ impl Builder {
     ghost use Rattle.papergrid_draw.specs.Drawings.{Drawing};
     ghost use Rattle.papergrid_draw.specs.Lined.{lined};
     ghost use Rattle.papergrid_tracks.specs.declared.sizing.Sizing.{Sizing};
-    ghost use Rattle.papergrid_builder.specs.Calls.{AreNoRows, GainsCell, GainsRows, GainsSetting, IsNoCell, IsNoSetting, IsNotTold, IsOutOfMemory};
+    ghost use Rattle.papergrid_builder.specs.Calls.{AreNoRows, GainsCell, GainsRows, GainsSetting, GainsSettingIn, IsNoCell, IsNoSetting, IsNotTold, IsOutOfMemory};
     ghost use Rattle.papergrid_builder.specs.Layouts.{IsCellAnswer, IsFoundTable, IsNoFoundTable, IsPlaceAnswer, certificate_along, sizes_along, totals_of};
     ghost use Rattle.papergrid_builder.specs.Pictures.{IsDrawingOf, IsNotDrawn};
     ghost use Rattle.papergrid_builder.specs.Told.{FoundTable, blank_table, with_row_end};
@@ -112,8 +112,8 @@ impl Builder {
     /// `BadSetting` where it is no JSON in UTF-8, has no name that is known, or has values that are not those of that name or not in
     /// range; `Memory`.
     pub fn read_setting(&mut self, alloc: Global, json: &[u8]) -> Result<(), BuilderError>
-        ensures ok { OnOk result ((setting : Setting) × GainsSetting self.old self.new setting) }
-        ensures refused { IfErr result IsNoSetting }
+        ensures ok { OnOk result (GainsSettingIn json.now self.old self.new) }
+        ensures refused { IfErr result (IsNoSetting json.now) }
         ensures err { OnErr result (self.new ≡ self.old) }
     {
         match read_setting(alloc, json) {

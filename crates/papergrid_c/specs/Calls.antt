@@ -1,7 +1,7 @@
 -- What calls do to the table of a handle.
 use Rattle.std.specs.Prelude.{◌≡◌, ◌⊎◌, ℕ, ℤ, List, Option, None, Some}
 use Rattle.papergrid_config.specs.declared.setting.Setting.{Setting}
-use Rattle.papergrid_builder.specs.Calls.{AreNoRows, GainsCell, GainsRows, GainsSetting, IsNoCell, IsNoSetting, IsNotTold, IsOutOfMemory}
+use Rattle.papergrid_builder.specs.Calls.{AreNoRows, GainsCell, GainsRows, GainsSetting, GainsSettingIn, IsNoCell, IsNoSetting, IsNotTold, IsOutOfMemory}
 use Rattle.papergrid_builder.specs.Told.{ToldTable, blank_table, with_row_end}
 use Rattle.papergrid_builder.specs.declared.error.BuilderError.{BuilderError}
 use Rattle.papergrid_builder.specs.declared.error.BuilderError.TheVariants.{Memory}
@@ -34,9 +34,9 @@ EndsRow old = Ends (λ new. new ≡ with_row_end old) IsOutOfMemory old
 abbrev pub PushesRows : ℕ → ℕ → List ℕ → ToldTable → ToldTable → ℤ → Type 0
 PushesRows cell_end row_end text old = Ends (GainsRows cell_end row_end text old) (AreNoRows cell_end row_end text) old
 
--- one more setting, which some JSON text says
-abbrev pub ReadsSetting : ToldTable → ToldTable → ℤ → Type 0
-ReadsSetting old = Ends (λ new. (setting : Setting) × GainsSetting old new setting) IsNoSetting old
+-- one more setting, which a JSON text tells
+abbrev pub ReadsSetting : List ℕ → ToldTable → ToldTable → ℤ → Type 0
+ReadsSetting text old = Ends (GainsSettingIn text old) (IsNoSetting text) old
 
 -- one more setting; none where the values make none
 abbrev pub Sets : Option Setting → ToldTable → ToldTable → ℤ → Type 0

@@ -91,7 +91,7 @@ pub extern "C" fn papergrid_push_rows(
 /// Tells one more setting, by a JSON list of its name and its values.
 #[unsafe(no_mangle)]
 pub extern "C" fn papergrid_set(alloc: Global, handle: &mut Handle, json: &[u8]) -> i32
-    ensures { ChangesTable ReadsSetting handle.old.held handle.new.held result }
+    ensures { ChangesTable (ReadsSetting json.now) handle.old.held handle.new.held result }
 {
     match handle.take(alloc) {
         None => NO_TABLE,

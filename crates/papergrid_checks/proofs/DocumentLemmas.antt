@@ -11,16 +11,16 @@ use Rattle.papergrid_draw.proofs.SinkLemmas.{undrawn-beginning}
 use Rattle.papergrid_draw.specs.declared.error.DrawError.{DrawError}
 use Rattle.papergrid_draw.specs.Lined.{lined}
 use Rattle.papergrid_tracks.specs.declared.sizing.Sizing.TheVariants.{ByShares}
-use Rattle.papergrid_json.specs.Documents.{AreInRange}
+use Rattle.papergrid_json.specs.Documents.{IsDocumentRead}
 use Rattle.papergrid_json.specs.Pictures.{IsDocumentDrawing, IsDocumentFault}
 use Rattle.papergrid_json.specs.declared.document.Document.{Document}
 use Rattle.papergrid_checks.specs.Documents.{IsOfDocument}
 use Rattle.papergrid_checks.specs.Written.{AppendsBeginning}
 
-of-document : (document : Document) → AreInRange document.settings.items → (d : Drawing) → IsDocumentDrawing document ByShares d → IsOfDocument (lined d)
-of-document document range d is = (document, range, (d, is, refl))
+module _ {W : Type 0} (contents : W → Option (List ℕ)) (has_failed has_stalled : W → Bool) (old new : W) (text : List ℕ) (document : Document) (read : IsDocumentRead text (Ok document)) where
+  of-document : (d : Drawing) → IsDocumentDrawing document ByShares d → IsOfDocument text (lined d)
+  of-document d is = (document, read, (d, is, refl))
 
-module _ {W : Type 0} (contents : W → Option (List ℕ)) (has_failed has_stalled : W → Bool) (old new : W) (document : Document) (range : AreInRange document.settings.items) where
   -- a drawing was written
   abbrev pub IsPictured : Type 0
   IsPictured = (d : Drawing) × IsDocumentDrawing document ByShares d × IsTaken contents has_failed has_stalled old (lined d) new
@@ -29,13 +29,13 @@ module _ {W : Type 0} (contents : W → Option (List ℕ)) (has_failed has_stall
   abbrev pub IsNoPicture : DrawError → Type 0
   IsNoPicture = IsUndrawn contents has_failed has_stalled (IsDocumentDrawing document ByShares) (IsDocumentFault document ByShares) lined old new
 
-  pictured : IsPictured → (output : List ℕ) × IsOfDocument output × Appends (contents old) (contents new) output
-  pictured is = (lined is.0, of-document document range is.0 is.1, is.2.bytes_are)
+  pictured : IsPictured → (output : List ℕ) × IsOfDocument text output × Appends (contents old) (contents new) output
+  pictured is = (lined is.0, of-document is.0 is.1, is.2.bytes_are)
 
-  begun : (e : DrawError) → IsNoPicture e → AppendsBeginning IsOfDocument (contents old) (contents new)
+  begun : (e : DrawError) → IsNoPicture e → AppendsBeginning (IsOfDocument text) (contents old) (contents new)
   begun e is = elim (undrawn-beginning contents has_failed has_stalled (IsDocumentDrawing document ByShares) (IsDocumentFault document ByShares) lined old new e is) [
     | inl kept ↦ inl (subst (λ (w : W). Appends (contents old) (contents w) []) (sym kept) (Appends-nil (contents old)))
-    | inr so ↦ inr (lined so.0, of-document document range so.0 so.1, so.2)
+    | inr so ↦ inr (lined so.0, of-document so.0 so.1, so.2)
   ]
 
   -- what the clause of a drawn document says
@@ -43,13 +43,13 @@ module _ {W : Type 0} (contents : W → Option (List ℕ)) (has_failed has_stall
   IsWritten = WritesPicture contents has_failed has_stalled (IsDocumentDrawing document ByShares) (IsDocumentFault document ByShares) lined old new
 
   pub picture-of : {T D : Type 0} (drawn : Result T DrawError) (told : Result T D) → is_ok told ≡ is_ok drawn → IsWritten drawn
-      → OnOk told ((output : List ℕ) × IsOfDocument output × Appends (contents old) (contents new) output)
+      → OnOk told ((output : List ℕ) × IsOfDocument text output × Appends (contents old) (contents new) output)
   picture-of (Ok x) (Ok y) same is = pictured is
   picture-of (Err e) (Ok y) same is = absurd (let none : ⊥ = cc in none)
   picture-of drawn (Err d) same is = tt
 
   pub begun-of : {T D : Type 0} (drawn : Result T DrawError) (told : Result T D) → is_ok told ≡ is_ok drawn → IsWritten drawn
-      → OnErr told (AppendsBeginning IsOfDocument (contents old) (contents new))
+      → OnErr told (AppendsBeginning (IsOfDocument text) (contents old) (contents new))
   begun-of (Err e) (Err d) same is = begun e is
   begun-of (Ok x) (Err d) same is = absurd (let none : ⊥ = cc in none)
   begun-of drawn (Ok y) same is = tt

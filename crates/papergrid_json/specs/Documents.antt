@@ -1,8 +1,139 @@
--- What is known of a document that was read.
-use Rattle.std.specs.Prelude.{◌≡◌, List, All, true}
+-- What a document tells, and what is known of one that was read.
+use Rattle.std.specs.Prelude.{◌≡◌, ℕ, max, Bool, true, ◌&&◌, nat_le, is_some, unwrap_or, if◌then◌else◌, List, [], ◌∷◌, All, Option, Some, None, Result, Ok, Err, option_and_then, option_map, codes, length, map, string_bytes, take, ⊤, IsUtf8, String, Vec}
+use Rattle.std.specs.Global.{Global}
+use Rattle.std.specs.Option.{option_or, option_zip}
+use Rattle.std.specs.BTreeMap.{BTreeMap, get}
+use Rattle.std.specs.Ordering.{is_eq}
+use Rattle.serde_json.specs.Data.{Data, Items, no_items}
+use Rattle.serde_json.specs.Find as json
+use Rattle.serde_json.specs.Read.{read}
+use Rattle.papergrid_values.specs.declared.position.Position.{Position}
+use Rattle.papergrid_values.specs.MapKeys.{position_cmp}
 use Rattle.papergrid_config.specs.Applied.{is_in_range}
 use Rattle.papergrid_config.specs.declared.setting.Setting.{Setting}
+use Rattle.papergrid_json.specs.Settings.{setting_at}
+use Rattle.papergrid_json.specs.Spots.{each, is_list_of, is_missing, item_at, list_at, member_at, number_at, text_at, when}
+use Rattle.papergrid_json.specs.Values.{of_both}
+use Rattle.papergrid_json.specs.declared.document.Document.{Document}
+use Rattle.papergrid_json.specs.declared.document.OwnSizes.{OwnSizes}
+use Rattle.papergrid_json.specs.declared.error.DocumentError.{DocumentError}
+use Rattle.papergrid_json.specs.declared.error.DocumentError.TheVariants.{Memory, Syntax}
 
 -- each setting may be applied
 abbrev pub AreInRange : List Setting → Type 0
 AreInRange settings = All (λ setting. is_in_range setting ≡ true) settings
+
+-- the items of a list, none where nothing stands
+unfoldable pub items_at : Option Data → Option Items
+items_at here = if is_missing here then Some no_items else option_and_then json.as_array here
+
+-- ---- parts of a document
+
+-- a setting that may be applied
+unfoldable pub accepted_at : Option Data → Option Setting
+accepted_at here = option_and_then (λ setting. when (is_in_range setting) (Some setting)) (setting_at here)
+
+-- [row, column, text before, text after]
+unfoldable pub colored_at : Option Data → Option (Position × (List ℕ × List ℕ))
+colored_at here = when (is_list_of 4 here)
+    (option_zip (of_both (λ row col. record { row = row; col = col }) (number_at (item_at 0 here)) (number_at (item_at 1 here)))
+    (option_zip (text_at (item_at 2 here)) (text_at (item_at 3 here))))
+
+-- ---- a document
+
+-- what an object tells but its rows: a number of columns, settings, sizes and colours, as far as it tells them
+abbrev pub Told : Type 0
+Told = (Option ℕ × List Setting) × (Option (List ℕ × List ℕ) × List (Position × (List ℕ × List ℕ)))
+
+unfoldable pub optional_number_at : Option Data → Option (Option ℕ)
+optional_number_at here = if is_missing here then Some None else option_map Some (number_at here)
+
+unfoldable pub optional_list_at : {A : Type 0} → (Option Data → Option A) → Option Data → Option (List A)
+optional_list_at read here = option_and_then (each read) (items_at here)
+
+unfoldable pub own_sizes_at : Option Data → Option (Option (List ℕ × List ℕ))
+own_sizes_at here =
+    if is_missing here then Some None
+    else option_map Some (option_zip (list_at number_at (member_at (codes "widths") here)) (list_at number_at (member_at (codes "heights") here)))
+
+module _ (document : Data) where
+  unfoldable pub draft_in : Option Told
+  draft_in = when (is_some (json.as_object document)) (option_zip
+      (option_zip (optional_number_at (json.get (codes "columns") document)) (optional_list_at accepted_at (json.get (codes "settings") document)))
+      (option_zip (own_sizes_at (json.get (codes "sizes") document)) (optional_list_at colored_at (json.get (codes "colors") document))))
+
+  -- the texts of each row
+  unfoldable pub row_texts_in : Option (List (List (List ℕ)))
+  row_texts_in = list_at (list_at text_at) (json.get (codes "records") document)
+
+abbrev pub longest_row : List (List (List ℕ)) → ℕ
+longest_row [] = 0
+longest_row (row ∷ rows) = max (length row) (longest_row rows)
+
+-- the number of columns: as told, or that of the longest row
+abbrev pub columns_of : Told → List (List (List ℕ)) → ℕ
+columns_of told rows = unwrap_or told.0.0 (longest_row rows)
+
+-- whether there is a width for each column and a height for each row
+abbrev pub are_enough : ℕ → ℕ → Option (List ℕ × List ℕ) → Bool
+are_enough columns rows None = true
+are_enough columns rows (Some sizes) = nat_le columns (length sizes.0) && nat_le rows (length sizes.1)
+
+-- the first ones, one for each
+abbrev pub fitted : ℕ → ℕ → List ℕ × List ℕ → List ℕ × List ℕ
+fitted columns rows sizes = (take columns sizes.0, take rows sizes.1)
+
+-- what a document tells
+abbrev pub told_in : Data → Option (Told × List (List (List ℕ)))
+told_in document = option_and_then
+    (λ told. when (are_enough (columns_of told.0 told.1) (length told.1) told.0.1.0) (Some told))
+    (option_zip (draft_in document) (row_texts_in document))
+
+-- the colour of the last one at a position
+abbrev pub color_in : List (Position × (List ℕ × List ℕ)) → Position → Option (List ℕ × List ℕ)
+color_in [] position = None
+color_in (first ∷ colors) position = option_or (color_in colors position) (if is_eq (position_cmp first.0 position) then Some first.1 else None)
+
+abbrev pub AreColors : List (Position × (List ℕ × List ℕ)) → BTreeMap Position (List ℕ × List ℕ) → Type 0
+AreColors told colors = (position : Position) → get position_cmp colors position ≡ color_in told position
+
+abbrev pub own_sizes : OwnSizes → List ℕ × List ℕ
+own_sizes sizes = (sizes.widths.items, sizes.heights.items)
+
+-- the texts of rows, and of a document, row by row
+abbrev pub row_texts : List (Vec (String Global) Global) → List (List (List ℕ))
+row_texts rows = map (λ row. map string_bytes row.items) rows
+
+abbrev pub document_texts : Document → List (List (List ℕ))
+document_texts document = row_texts document.rows.items
+
+-- a document with what is told
+pub record IsDocument (told : Told × List (List (List ℕ))) (document : Document) : Type 0 where
+  pub columns : document.columns ≡ columns_of told.0 told.1
+  pub settings : document.settings.items ≡ told.0.0.1
+  pub rows : document_texts document ≡ told.1
+  pub sizes : option_map own_sizes document.sizes ≡ option_map (fitted (columns_of told.0 told.1) (length told.1)) told.0.1.0
+  pub colors : AreColors told.0.1.1 document.colors
+
+-- ---- what is read
+
+-- what a text tells as JSON
+abbrev pub document_in : List ℕ → Option (Told × List (List (List ℕ)))
+document_in text = option_and_then told_in (read text)
+
+abbrev pub setting_in : List ℕ → Option Setting
+setting_in text = option_and_then (λ value. accepted_at (Some value)) (read text)
+
+-- a document is read of a text that tells it; a text that is refused is no JSON in UTF-8, or tells none
+abbrev pub IsDocumentRead : List ℕ → Result Document DocumentError → Type 0
+IsDocumentRead text (Ok document) = (told : Told × List (List (List ℕ))) × (document_in text ≡ Some told) × IsDocument told document
+IsDocumentRead text (Err Memory) = ⊤
+IsDocumentRead text (Err (Syntax line byte)) = IsUtf8 text → read text ≡ None
+IsDocumentRead text (Err error) = (is_some (read text) ≡ true) × (document_in text ≡ None)
+
+-- the same of a setting
+abbrev pub IsSettingRead : List ℕ → Result Setting DocumentError → Type 0
+IsSettingRead text (Ok setting) = setting_in text ≡ Some setting
+IsSettingRead text (Err Memory) = ⊤
+IsSettingRead text (Err (Syntax line byte)) = IsUtf8 text → read text ≡ None
+IsSettingRead text (Err error) = (is_some (read text) ≡ true) × (setting_in text ≡ None)

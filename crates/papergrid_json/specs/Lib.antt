@@ -1,3 +1,7 @@
--- Definitions: what is known of a document that was read, and its picture.
+-- Definitions: what a document tells in JSON, what is known of one that was read, and its picture.
 pub mod Documents
+pub mod ForProofs
 pub mod Pictures
+pub mod Settings
+pub mod Spots
+pub mod Values

@@ -1,5 +1,5 @@
 -- The picture of a document.
-use Rattle.std.specs.Prelude.{◌≡◌, ℕ, List, Option, None, Some, Result, Ok, Err, length, map, slice_index, string_bytes}
+use Rattle.std.specs.Prelude.{◌≡◌, ℕ, List, Option, None, Some, Result, Ok, Err, length, slice_index}
 use Rattle.std.specs.BTreeMap.{get}
 use Rattle.papergrid_values.specs.MapKeys.{position_cmp}
 use Rattle.papergrid_config.specs.declared.spanned.SpannedConfig.{SpannedConfig}
@@ -14,14 +14,11 @@ use Rattle.papergrid_draw.specs.declared.error.DrawError.{DrawError}
 use Rattle.papergrid_draw.specs.Cells.{lines_at, text_lines}
 use Rattle.papergrid_walk.specs.Measures.{text_measure}
 use Rattle.papergrid_config.specs.Laws.{IsConfiguredBy}
+use Rattle.papergrid_json.specs.Documents.{document_texts}
 use Rattle.papergrid_json.specs.declared.document.Document.{Document}
 use Rattle.papergrid_json.specs.declared.document.OwnSizes.{OwnSizes}
 use Rattle.papergrid_layout.specs.Answers.{AreBothSizes, IsBothRefused}
 use Rattle.papergrid_config.specs.Grids.{spanned_grid}
-
--- the texts of a document, row by row
-abbrev pub document_texts : Document → List (List (List ℕ))
-document_texts document = map (λ row. map string_bytes row.items) document.rows.items
 
 -- its drawing by a configuration, with these widths and heights: its texts, in its colours
 abbrev pub document_drawing : SpannedConfig → Document → List ℕ → List ℕ → Drawing

@@ -1,8 +1,13 @@
 //! Documents, read.
 
-ghost use Rattle.std.specs.Prelude.{◌≡◌, ◌++◌, ◌∷◌, [], IfOk, OnOk, true};
+ghost use Rattle.std.specs.Prelude.{◌≡◌, ◌≢◌, IfOk, Some, true, List, codes, option_and_then, length, map, option_map, string_bytes};
+ghost use Rattle.serde_json.specs.Find.{as_array, get};
+ghost use Rattle.serde_json.specs.View.{items_view, view};
+ghost use Rattle.papergrid_json.specs.Spots.{AreItems, IsReading, IsReadingAs, count, each, found, list_at, text_at};
 ghost use Rattle.papergrid_config.specs.Applied.{is_in_range};
-ghost use Rattle.papergrid_json.specs.Documents.{AreInRange};
+ghost use Rattle.papergrid_json.specs.declared.error.Fault.TheVariants.{Memory};
+ghost use Rattle.papergrid_json.specs.ForProofs.Reading.{AreOwnSizes, IsDraft, IsFinished, IsJsonRead, IsTableRead};
+ghost use Rattle.papergrid_json.specs.Documents.{AreColors, AreInRange, IsDocumentRead, IsSettingRead, accepted_at, are_enough, colored_at, draft_in, longest_row, items_at, optional_list_at, optional_number_at, own_sizes_at, row_texts_in, own_sizes, row_texts};
 
 use crate::error::{DocumentError, Fault, told};
 use crate::place::Place;
@@ -48,35 +53,10 @@ pub struct Document {
 /// `Syntax` where it is not JSON in UTF-8, `UnknownSetting` where a setting has no name of theirs, and `Unexpected` where a value is
 /// not what is wanted there, a setting is out of range, or a width or a height is missing. `Memory` in place of any answer.
 pub fn read_document(alloc: Global, input: &[u8]) -> Result<Document, DocumentError>
-    ensures { IfOk result (λ document. AreInRange document.settings.items) }
+    ensures in_range { IfOk result (λ document. AreInRange document.settings.items) }
+    ensures read { IsDocumentRead input.now result }
 {
-    read(alloc, parsed(alloc, input)?)
-}
-
-/// The JSON value that a text is.
-fn parsed(alloc: Global, input: &[u8]) -> Result<Value, DocumentError> {
-    match Value::from_slice(alloc, input) {
-        Ok(value) => Ok(value),
-        Err(error) if error.is_memory() => Err(DocumentError::Memory),
-        Err(error) => Err(DocumentError::Syntax(error.line(), error.column())),
-    }
-}
-
-/// The table that a JSON value tells.
-fn read(alloc: Global, document: Value) -> Result<Document, DocumentError>
-    ensures { IfOk result (λ document. AreInRange document.settings.items) }
-{
-    let (columns, draft) = match draft(alloc, &document) {
-        Ok(draft) => draft,
-        Err(fault) => return Err(told(alloc, fault)),
-    };
-    match rows(alloc, document) {
-        Ok(rows) => match finished(draft, columns, rows) {
-            Ok(document) => Ok(document),
-            Err(fault) => Err(told(alloc, fault)),
-        },
-        Err(fault) => Err(told(alloc, fault)),
-    }
+    table(alloc, parsed(alloc, input)?)
 }
 
 /// The setting that a JSON list of its name and its values tells, as in the `settings` of a document.
@@ -85,113 +65,130 @@ fn read(alloc: Global, document: Value) -> Result<Document, DocumentError>
 ///
 /// Those of `read_document`. Its number among the settings is 0.
 pub fn read_setting(alloc: Global, input: &[u8]) -> Result<Setting, DocumentError>
-    ensures { IfOk result (λ setting. is_in_range setting ≡ true) }
+    ensures in_range { IfOk result (λ setting. is_in_range setting ≡ true) }
+    ensures read { IsSettingRead input.now result }
 {
     let value = parsed(alloc, input)?;
-    match one_setting(alloc, &value) {
+    let spot = Spot {
+        value: Some(&value),
+        place: Place::of("setting"),
+    };
+    match accepted(alloc, 0, &spot) {
         Ok(setting) => Ok(setting),
         Err(fault) => Err(told(alloc, fault)),
     }
 }
 
-/// The setting that a JSON value tells.
-fn one_setting<'v>(alloc: Global, value: &'v Value) -> Result<Setting, Fault<'v>>
-    ensures { IfOk result (λ setting. is_in_range setting ≡ true) }
+/// The JSON value that a text is.
+fn parsed(alloc: Global, input: &[u8]) -> Result<Value, DocumentError>
+    ensures { IsJsonRead input.now result }
 {
-    let spot = Spot {
-        value: Some(value),
-        place: Place::of("setting"),
+    match Value::from_slice(alloc, input) {
+        Ok(value) => Ok(value),
+        Err(error) if error.is_memory() => Err(DocumentError::Memory),
+        Err(error) => Err(DocumentError::Syntax(error.line(), error.column())),
+    }
+}
+
+/// The table that a JSON value tells.
+fn table(alloc: Global, document: Value) -> Result<Document, DocumentError>
+    ensures { IsTableRead (view document) result }
+{
+    let draft = match drafted(alloc, &document) {
+        Ok(draft) => draft,
+        Err(fault) => return Err(told(alloc, fault)),
     };
-    setting_at(alloc, 0, &spot)
+    match rows(alloc, document) {
+        Ok(rows) => match finished(draft, rows) {
+            Ok(document) => Ok(document),
+            Err(fault) => Err(told(alloc, fault)),
+        },
+        Err(fault) => Err(told(alloc, fault)),
+    }
 }
 
-/// The setting that stands at a place, with this number among them, if it is in range.
-fn setting_at<'v>(alloc: Global, index: usize, at: &Spot<'v>) -> Result<Setting, Fault<'v>>
-    ensures { IfOk result (λ setting. is_in_range setting ≡ true) }
-{
-    in_range(setting(alloc, index, at)?, at)
+/// What a document tells but its rows.
+#[derive(Drop)]
+struct Draft {
+    /// The number of columns.
+    columns: Option<usize>,
+    settings: Vec<Setting>,
+    sizes: Option<OwnSizes>,
+    colors: BTreeMap<Position, ANSIBuf>,
 }
 
-/// What a JSON value tells but its rows, and the number of columns, if it tells one.
-fn draft<'v>(alloc: Global, document: &'v Value) -> Result<(Option<usize>, Document), Fault<'v>>
-    ensures { IfOk result (λ told. AreInRange told.1.settings.items) }
+/// What a JSON value tells but its rows.
+#[tactic(auto, unfolding(crate::specs::Documents::draft_in))]
+fn drafted<'v>(alloc: Global, document: &'v Value) -> Result<Draft, Fault<'v>>
+    ensures { IsReadingAs IsDraft (draft_in (view document.now)) result }
 {
     if !document.is_object() {
         return Err(Fault::Unexpected(Place::of("the document"), "an object with records"));
     }
-    let columns = Spot::member(document, "columns");
-    let columns = if columns.is_empty() {
-        None
-    } else {
-        Some(columns.number()?)
-    };
-    let settings = settings(alloc, &Spot::member(document, "settings"))?;
-    let sizes = sizes(alloc, &Spot::member(document, "sizes"))?;
-    let colors = colors(alloc, &Spot::member(document, "colors"))?;
-    let draft = Document {
-        columns: 0,
-        settings,
-        rows: Vec::new(alloc),
-        sizes,
-        colors,
-    };
-    Ok((columns, draft))
+    Ok(Draft {
+        columns: optional_number(&Spot::member(document, "columns"))?,
+        settings: settings(alloc, &Spot::member(document, "settings"))?,
+        sizes: sizes(alloc, &Spot::member(document, "sizes"))?,
+        colors: colors(alloc, &Spot::member(document, "colors"))?,
+    })
+}
+
+/// The number that stands at a place, if something does.
+#[tactic(auto, unfolding(crate::specs::Documents::optional_number_at))]
+fn optional_number<'v>(spot: &Spot<'v>) -> Result<Option<usize>, Fault<'v>>
+    ensures { IsReading (optional_number_at (found spot.now)) result }
+{
+    if spot.is_empty() {
+        return Ok(None);
+    }
+    Ok(Some(spot.number()?))
 }
 
 /// The settings that stand at a place, none where nothing does.
 fn settings<'v>(alloc: Global, spot: &Spot<'v>) -> Result<Vec<Setting>, Fault<'v>>
-    ensures { IfOk result (λ settings. AreInRange settings.items) }
+    ensures { IsReadingAs AreItems (optional_list_at accepted_at (found spot.now)) result }
 {
     let mut settings = Vec::new(alloc);
-    add_settings(alloc, spot, &mut settings)?;
+    for index in 0..count(spot, "a list of settings")? {
+        settings.push(accepted(alloc, index, &spot.at(index))?)?;
+    }
     Ok(settings)
 }
 
-/// Adds the settings that stand at a place.
-fn add_settings<'v>(
-    alloc: Global,
-    spot: &Spot<'v>,
-    settings: &mut Vec<Setting>,
-) -> Result<(), Fault<'v>>
-    requires { AreInRange settings.old.items }
-    ensures { OnOk result (AreInRange settings.new.items) }
+/// The setting that stands at a place, with this number among them, if it is in range.
+#[tactic(auto, unfolding(crate::specs::Documents::accepted_at))]
+fn accepted<'v>(alloc: Global, index: usize, spot: &Spot<'v>) -> Result<Setting, Fault<'v>>
+    ensures in_range { IfOk result (λ setting. is_in_range setting ≡ true) }
+    ensures read { IsReading (accepted_at (found spot.now)) result }
 {
-    for index in 0..count(spot, "a list of settings")? {
-        push_setting(settings, setting_at(alloc, index, &spot.at(index))?)?;
-    }
-    Ok(())
-}
-
-/// Adds a setting, unless memory runs out.
-fn push_setting(settings: &mut Vec<Setting>, setting: Setting) -> Result<(), AllocError>
-    ensures { OnOk result (settings.new.items ≡ settings.old.items ++ setting ∷ []) }
-{
-    settings.push(setting)?;
-    Ok(())
-}
-
-/// The setting that stands at a place, if it is in range.
-fn in_range<'v>(setting: Setting, at: &Spot<'v>) -> Result<Setting, Fault<'v>>
-    ensures { IfOk result (λ told. (told ≡ setting) × (is_in_range setting ≡ true)) }
-{
+    let setting = setting(alloc, index, spot)?;
     if !setting.is_in_range() {
         drop(setting);
-        return Err(at.unexpected("of a row and a column below the greatest number"));
+        return Err(spot.unexpected("of a row and a column below the greatest number"));
     }
     Ok(setting)
 }
 
 /// How many items the list at a place has, 0 where nothing stands there.
-fn count<'v>(spot: &Spot<'v>, wanted: &'static str) -> Result<usize, Fault<'v>> {
-    match spot.list() {
-        Some(items) => Ok(items.len()),
-        None if spot.is_empty() => Ok(0),
+#[tactic(auto, unfolding(crate::specs::Documents::items_at))]
+fn count<'v>(spot: &Spot<'v>, wanted: &'static str) -> Result<usize, Fault<'v>>
+    ensures { IsReading (option_map count (items_at (found spot.now))) result }
+{
+    if spot.is_empty() {
+        return Ok(0);
+    }
+    match spot.count() {
+        Some(count) => Ok(count),
         None => Err(spot.unexpected(wanted)),
     }
 }
 
 /// The sizes that stand at a place, if something does.
-fn sizes<'v>(alloc: Global, spot: &Spot<'v>) -> Result<Option<OwnSizes>, Fault<'v>> {
+#[tactic(auto, unfolding(crate::specs::Documents::own_sizes_at))]
+fn sizes<'v>(alloc: Global, spot: &Spot<'v>) -> Result<Option<OwnSizes>, Fault<'v>>
+    ensures { IsReadingAs (λ told sizes. option_map own_sizes sizes ≡ told)
+        (own_sizes_at (found spot.now)) result }
+{
     if spot.is_empty() {
         return Ok(None);
     }
@@ -201,7 +198,9 @@ fn sizes<'v>(alloc: Global, spot: &Spot<'v>) -> Result<Option<OwnSizes>, Fault<'
 }
 
 /// The colours of texts that stand at a place, none where nothing does.
-fn colors<'v>(alloc: Global, spot: &Spot<'v>) -> Result<BTreeMap<Position, ANSIBuf>, Fault<'v>> {
+fn colors<'v>(alloc: Global, spot: &Spot<'v>) -> Result<BTreeMap<Position, ANSIBuf>, Fault<'v>>
+    ensures { IsReadingAs AreColors (optional_list_at colored_at (found spot.now)) result }
+{
     let mut colors = BTreeMap::new(alloc);
     for index in 0..count(spot, "a list of colours")? {
         let (position, color) = color(alloc, &spot.at(index))?;
@@ -211,24 +210,62 @@ fn colors<'v>(alloc: Global, spot: &Spot<'v>) -> Result<BTreeMap<Position, ANSIB
 }
 
 /// The colour of a text that stands at a place, and its position.
-fn color<'v>(alloc: Global, spot: &Spot<'v>) -> Result<(Position, ANSIBuf), Fault<'v>> {
+#[tactic(auto, unfolding(crate::specs::Documents::colored_at))]
+fn color<'v>(alloc: Global, spot: &Spot<'v>) -> Result<(Position, ANSIBuf), Fault<'v>>
+    ensures { IsReading (colored_at (found spot.now)) result }
+{
     spot.expect_items(4, COLOR)?;
-    let color = color_of(alloc, spot, (spot.at(2).text(), spot.at(3).text()), COLOR)?;
     let position = Position::new(spot.at(0).number()?, spot.at(1).number()?);
+    let color = color_of(alloc, spot, spot.at(2).text(), spot.at(3).text(), COLOR)?;
     Ok((position, color))
 }
 
 const COLOR: &str = "[row, column, text before, text after]";
 
 /// The rows of texts that a JSON value tells.
-fn rows(alloc: Global, document: Value) -> Result<Vec<Vec<String>>, Fault<'static>> {
+#[tactic(auto, unfolding(crate::specs::Documents::row_texts_in, crate::specs::Spots::list_at))]
+fn rows(alloc: Global, document: Value) -> Result<Vec<Vec<String>>, Fault<'static>>
+    ensures { IsReadingAs (λ told rows. row_texts rows.items ≡ told)
+        (row_texts_in (view document)) result }
+{
     let place = Place::of("records");
-    let Value::Object(mut members) = document else {
-        return Err(Fault::Unexpected(place, ROWS));
-    };
-    let Some(Value::Array(records)) = members.remove("records") else {
-        return Err(Fault::Unexpected(place, ROWS));
-    };
+    match records(document) {
+        Some(records) => rows_of(alloc, place, records),
+        None => Err(Fault::Unexpected(place, "a list of rows, each a list of texts")),
+    }
+}
+
+/// The records of a JSON value, if it tells a list of them.
+fn records(document: Value) -> Option<Vec<Value>>
+    ensures { option_map (λ records. items_view records.items) result
+        ≡ option_and_then as_array (get (codes "records") (view document)) }
+{
+    match document {
+        Value::Object(mut members) => listed(members.remove("records")),
+        _ => None,
+    }
+}
+
+/// The items of a list.
+fn listed(value: Option<Value>) -> Option<Vec<Value>>
+    ensures { option_map (λ items. items_view items.items) result
+        ≡ option_and_then as_array (option_map view value) }
+{
+    match value {
+        Some(Value::Array(items)) => Some(items),
+        _ => None,
+    }
+}
+
+/// The rows of texts that JSON values are.
+fn rows_of(
+    alloc: Global,
+    place: Place,
+    records: Vec<Value>,
+) -> Result<Vec<Vec<String>>, Fault<'static>>
+    ensures { IsReadingAs (λ told rows. row_texts rows.items ≡ told)
+        (each (list_at text_at) (items_view records.items)) result }
+{
     let mut rows = Vec::with_capacity(alloc, records.len())?;
     for record in records {
         let at = place.at(rows.len());
@@ -237,25 +274,37 @@ fn rows(alloc: Global, document: Value) -> Result<Vec<Vec<String>>, Fault<'stati
     Ok(rows)
 }
 
-const ROWS: &str = "a list of rows, each a list of texts";
-
 /// The texts of a row.
-fn row(alloc: Global, place: Place<'static>, record: Value) -> Result<Vec<String>, Fault<'static>> {
-    let Value::Array(cells) = record else {
+#[tactic(auto, unfolding(crate::specs::Spots::list_at))]
+fn row(alloc: Global, place: Place, cells: Value) -> Result<Vec<String>, Fault<'static>>
+    ensures { IsReadingAs (λ told row. map string_bytes row.items ≡ told)
+        (list_at text_at (Some (view cells))) result }
+{
+    let Value::Array(cells) = cells else {
         return Err(Fault::Unexpected(place, "a list of texts"));
     };
-    let mut row = Vec::with_capacity(alloc, cells.len())?;
+    texts(alloc, place, cells)
+}
+
+/// The texts that JSON values are.
+fn texts(alloc: Global, place: Place, cells: Vec<Value>) -> Result<Vec<String>, Fault<'static>>
+    ensures { IsReadingAs (λ told texts. map string_bytes texts.items ≡ told)
+        (each text_at (items_view cells.items)) result }
+{
+    let mut texts = Vec::with_capacity(alloc, cells.len())?;
     for cell in cells {
         match cell {
-            Value::String(text) => row.push(text)?,
-            _ => return Err(Fault::Unexpected(place.at(row.len()), "a text")),
+            Value::String(text) => texts.push(text)?,
+            _ => return Err(Fault::Unexpected(place.at(texts.len()), "a text")),
         }
     }
-    Ok(row)
+    Ok(texts)
 }
 
 /// The greatest number of texts.
-fn greatest_length(rows: &[Vec<String>]) -> usize {
+fn longest_row(rows: &[Vec<String>]) -> usize
+    ensures { result ≡ longest_row (row_texts rows.now) }
+{
     let mut greatest = 0;
     for row in rows {
         greatest = greatest.max(row.len());
@@ -264,53 +313,48 @@ fn greatest_length(rows: &[Vec<String>]) -> usize {
 }
 
 /// The table of a draft with these rows.
-fn finished(
-    draft: Document,
-    columns: Option<usize>,
-    rows: Vec<Vec<String>>,
-) -> Result<Document, Fault<'static>>
-    ensures { IfOk result (λ document. document.settings.items ≡ draft.settings.items) }
+fn finished(draft: Draft, rows: Vec<Vec<String>>) -> Result<Document, Fault<'static>>
+    ensures { IsFinished draft (row_texts rows.items) result }
 {
-    let columns = match columns {
+    let columns = match draft.columns {
         Some(columns) => columns,
-        None => greatest_length(&rows),
+        None => longest_row(&rows),
     };
-    let mut document = draft;
-    fit_each(&mut document.sizes, columns, rows.len())?;
-    document.columns = columns;
-    document.rows = rows;
-    Ok(document)
+    let sizes = enough(draft.sizes, columns, rows.len())?;
+    Ok(Document {
+        columns,
+        settings: draft.settings,
+        rows,
+        sizes,
+        colors: draft.colors,
+    })
 }
 
-/// Keeps a width for each column and a height for each row, if sizes are told.
-fn fit_each(
-    sizes: &mut Option<OwnSizes>,
+/// A width for each column and a height for each row, if sizes are told.
+fn enough(
+    sizes: Option<OwnSizes>,
     columns: usize,
     rows: usize,
-) -> Result<(), Fault<'static>> {
-    if let Some(sizes) = sizes {
-        fit(
-            &mut sizes.widths,
-            columns,
-            "widths",
-            "a width for each column",
-        )?;
-        fit(&mut sizes.heights, rows, "heights", "a height for each row")?;
+) -> Result<Option<OwnSizes>, Fault<'static>>
+    ensures { AreOwnSizes columns rows (option_map own_sizes sizes) result }
+{
+    let Some(mut sizes) = sizes else {
+        return Ok(None);
+    };
+    if sizes.widths.len() < columns {
+        return Err(missing("widths", "a width for each column"));
     }
-    Ok(())
+    if sizes.heights.len() < rows {
+        return Err(missing("heights", "a height for each row"));
+    }
+    sizes.widths.truncate(columns);
+    sizes.heights.truncate(rows);
+    Ok(Some(sizes))
 }
 
-/// Keeps so many sizes. There are no fewer.
-fn fit(
-    sizes: &mut Vec<usize>,
-    count: usize,
-    name: &'static str,
-    wanted: &'static str,
-) -> Result<(), Fault<'static>> {
-    if sizes.len() < count {
-        let place = Place::of("sizes").field(name);
-        return Err(Fault::Unexpected(place, wanted));
-    }
-    sizes.truncate(count);
-    Ok(())
+/// That sizes of this name are too few.
+fn missing(name: &'static str, wanted: &'static str) -> Fault<'static>
+    ensures { result ≢ Memory }
+{
+    Fault::Unexpected(Place::of("sizes").field(name), wanted)
 }

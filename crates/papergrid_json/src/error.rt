@@ -1,5 +1,9 @@
 //! What keeps a document from its table.
 
+ghost use Rattle.std.specs.Prelude.{◌≡◌, IfOk};
+ghost use Rattle.papergrid_json.specs.ForProofs.Reading.{IsErrorOf};
+ghost use Rattle.papergrid_json.specs.declared.error.Fault.TheVariants.{Memory};
+
 use crate::place::Place;
 use std::alloc::{AllocError, AllocFailed, Global};
 use thiserror::Error;
@@ -30,32 +34,40 @@ impl From<AllocError> for DocumentError {
 /// The same, while the document is read.
 #[derive(Clone, Copy)]
 pub enum Fault<'v> {
-    Unexpected(Place<'v>, &'static str),
+    Unexpected(Place, &'static str),
     UnknownSetting(usize, &'v str),
     Memory,
 }
 
 impl<'v> From<AllocError> for Fault<'v> {
+    ghost from_gives = { λ _ fault. fault ≡ Memory };
+
     fn from(_error: AllocError) -> Fault<'v> {
         Fault::Memory
     }
 }
 
 impl<'v, T: Drop> From<AllocFailed<T>> for Fault<'v> {
+    ghost from_gives = { λ _ fault. fault ≡ Memory };
+
     fn from(_error: AllocFailed<T>) -> Fault<'v> {
         Fault::Memory
     }
 }
 
 /// The fault in words of its own.
-pub fn told(alloc: Global, fault: Fault<'_>) -> DocumentError {
+pub fn told(alloc: Global, fault: Fault<'_>) -> DocumentError
+    ensures { IsErrorOf fault.entry result }
+{
     match owned(alloc, fault) {
         Ok(error) => error,
         Err(_) => DocumentError::Memory,
     }
 }
 
-fn owned(alloc: Global, fault: Fault<'_>) -> Result<DocumentError, AllocError> {
+fn owned(alloc: Global, fault: Fault<'_>) -> Result<DocumentError, AllocError>
+    ensures { IfOk result (IsErrorOf fault.entry) }
+{
     Ok(match fault {
         Fault::Unexpected(place, wanted) => DocumentError::Unexpected {
             path: format!(in alloc; "{place}")?,

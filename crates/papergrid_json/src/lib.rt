@@ -1,5 +1,5 @@
-//! Tables as JSON documents: their rows, settings, colours and sizes read, and their pictures. What is drawn of a document is proved.
-//! What is read of JSON is tested, and no contract says it: only that reading is safe, and that each setting is in range.
+//! Tables as JSON documents: their rows, settings, colours and sizes read, and their pictures. What is read of a
+//! JSON text is proved, and so is what is drawn of a document.
 #![tactic(auto)]
 
 mod document;
@@ -15,4 +15,4 @@ mod values;
 pub use document::{Document, OwnSizes, read_document, read_setting};
 pub use drawing::{configuration, document_table, draw_document};
 pub use error::DocumentError;
-pub use forms::{Form, SETTINGS, Scope};
+pub use forms::{Form, SETTINGS};

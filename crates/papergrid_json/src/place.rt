@@ -4,7 +4,7 @@ use std::fmt;
 
 /// A place in a document: the path to it, as far as it goes.
 #[derive(Clone, Copy)]
-pub struct Place<'v> {
+pub struct Place {
     /// A member of the document, or the document itself.
     member: &'static str,
     /// Which item of the member.
@@ -12,14 +12,14 @@ pub struct Place<'v> {
     /// Which part of that item.
     part: Option<usize>,
     /// A field of what is there.
-    field: Option<&'v str>,
+    field: Option<&'static str>,
     /// Which part of what is there then.
     last: Option<usize>,
 }
 
-impl<'v> Place<'v> {
+impl Place {
     /// A member of the document.
-    pub fn of(member: &'static str) -> Place<'v> {
+    pub fn of(member: &'static str) -> Place {
         Place {
             member,
             item: None,
@@ -30,7 +30,7 @@ impl<'v> Place<'v> {
     }
 
     /// An item of what is there.
-    pub fn at(&self, index: usize) -> Place<'v> {
+    pub fn at(&self, index: usize) -> Place {
         let mut place = *self;
         if place.field.is_some() {
             place.last = Some(index);
@@ -45,7 +45,7 @@ impl<'v> Place<'v> {
     }
 
     /// A field of what is there.
-    pub fn field(&self, name: &'v str) -> Place<'v> {
+    pub fn field(&self, name: &'static str) -> Place {
         Place {
             field: Some(name),
             ..*self
@@ -53,25 +53,17 @@ impl<'v> Place<'v> {
     }
 }
 
-impl fmt::Display for Place<'_> {
+impl fmt::Display for Place {
     fn fmt<W: fmt::Write>(&self, f: &mut fmt::Formatter<W>) -> fmt::Result {
         f.write_str(self.member)?;
         write_index(f, self.item)?;
         write_index(f, self.part)?;
         match self.field {
-            Some(name) if is_plain(name) => write!(f, ".{name}")?,
-            // A terminal would act on some of what a document may have here.
-            Some(name) => write!(f, "[{name:?}]")?,
+            Some(name) => write!(f, ".{name}")?,
             None => {}
         }
         write_index(f, self.last)
     }
-}
-
-/// Whether a name has no other characters than the names of parts.
-fn is_plain(name: &str) -> bool {
-    name.bytes()
-        .all(|byte| byte.is_ascii_lowercase() || byte == b'_')
 }
 
 /// Writes the number of an item in brackets, if there is one.

@@ -1,48 +1,69 @@
 //! The settings of a document.
 
+ghost use Rattle.std.specs.Option.{option_zip};
+ghost use Rattle.std.specs.Prelude.{◌≡◌, ◌≢◌};
+ghost use Rattle.papergrid_json.specs.Spots.{IsReading, IsReadingOrNone, found, item_at};
+ghost use Rattle.papergrid_json.specs.Values.{offset_at, position_at};
+ghost use Rattle.papergrid_json.specs.declared.error.Fault.TheVariants.{Memory};
+ghost use Rattle.papergrid_json.specs.Settings.{bare_setting, cell_setting, character_setting, entity_setting, line_setting, setting_at, setting_by_word, table_setting};
+
 use crate::error::Fault;
-use crate::forms::{Scope, form_named};
-use crate::parts::with_parts;
+use crate::forms::form_named;
+use crate::parts::{border, filled, frame, horizontal_line, sides, vertical_line};
 use crate::spot::Spot;
-use crate::values::{Told, color, entity, horizontal, position, shape, vertical};
+use crate::values::{Told, color, entity, horizontal, position, vertical};
 use papergrid_config::Setting;
-use papergrid_values::{
-    ANSIBuf, Border, Borders, Entity, HorizontalLine, Indent, Offset, Position, Sides, VerticalLine,
-};
+use papergrid_values::{ANSIBuf, Indent, Offset, Position};
 use std::alloc::Global;
 
 /// The setting that stands at a place, with this number among them.
-pub fn setting<'v>(alloc: Global, index: usize, spot: &Spot<'v>) -> Result<Setting, Fault<'v>> {
-    let (name, count) = spot.word();
-    if name.is_empty() {
+#[tactic(auto, unfolding(crate::specs::Settings::setting_at))]
+pub fn setting<'v>(alloc: Global, index: usize, spot: &Spot<'v>) -> Result<Setting, Fault<'v>>
+    ensures { IsReading (setting_at (found spot.now)) result }
+{
+    let Some((name, count)) = spot.word() else {
         return Err(spot.unexpected("a list of the name of a setting and its values"));
-    }
-    match form_named(name) {
-        None => Err(Fault::UnknownSetting(index, name)),
-        Some((_, _, values, spelled)) if *values != count => Err(spot.unexpected(*spelled)),
-        Some((_, scope, _, _)) => told(alloc, name, *scope, spot),
+    };
+    match by_name(alloc, name, count, spot)? {
+        Some(setting) => Ok(setting),
+        None => Err(unlike_all(index, name, spot)),
     }
 }
 
-/// The setting of a name with as many values as it has.
-fn told<'v>(
+/// That no setting has this name, or that the one which has it has other values.
+fn unlike_all<'v>(index: usize, name: &'v str, spot: &Spot<'v>) -> Fault<'v>
+    ensures { result ≢ Memory }
+{
+    match form_named(name) {
+        Some((_, spelled)) => spot.unexpected(*spelled),
+        None => Fault::UnknownSetting(index, name),
+    }
+}
+
+/// The setting of a name with so many values, if there is one.
+fn by_name<'v>(
     alloc: Global,
     name: &str,
-    scope: Scope,
+    count: usize,
     spot: &Spot<'v>,
-) -> Result<Setting, Fault<'v>> {
-    match scope {
-        Scope::All => Ok(of_all(name)),
-        Scope::Table => of_table(alloc, name, &spot.at(1)),
-        Scope::Line => of_line(alloc, name, spot),
-        Scope::Entity => of_entity(alloc, name, spot),
-        Scope::Position => of_cell(alloc, name, spot),
+) -> Result<Option<Setting>, Fault<'v>>
+    ensures { IsReadingOrNone (setting_by_word (found spot.now) (name.now, count)) result }
+{
+    match count {
+        0 => Ok(bare(name)),
+        1 => of_table(alloc, name, &spot.at(1)),
+        2 => of_line(alloc, name, &spot.at(1), &spot.at(2)),
+        3 => of_character(alloc, name, spot),
+        _ => Ok(None),
     }
 }
 
 /// One that removes all of a kind.
-fn of_all(name: &str) -> Setting {
-    match name {
+#[tactic(auto, unfolding(crate::specs::Settings::bare_setting))]
+fn bare(name: &str) -> Option<Setting>
+    ensures { result ≡ bare_setting name.now }
+{
+    Some(match name {
         "RemoveBorders" => Setting::RemoveBorders,
         "RemoveBordersColors" => Setting::RemoveBordersColors,
         "RemoveColorLineHorizontal" => Setting::RemoveColorLineHorizontal,
@@ -50,133 +71,159 @@ fn of_all(name: &str) -> Setting {
         "RemoveHorizontalChars" => Setting::RemoveHorizontalChars,
         "RemoveVerticalChars" => Setting::RemoveVerticalChars,
         "RemoveColumnSpans" => Setting::RemoveColumnSpans,
-        _ => Setting::RemoveRowSpans,
-    }
+        "RemoveRowSpans" => Setting::RemoveRowSpans,
+        _ => return None,
+    })
 }
 
-/// One of the margins or of the frame, by its value.
-fn of_table<'v>(alloc: Global, name: &str, value: &Spot<'v>) -> Result<Setting, Fault<'v>> {
-    match name {
-        "SetMargin" => with_parts(alloc, value, no_indents()).map(Setting::SetMargin),
-        "SetMarginColor" => with_parts(alloc, value, no_colors()).map(Setting::SetMarginColor),
+/// One of the margins or of the frame, or one that removes the characters of a cell's lines, by its value.
+#[tactic(auto, unfolding(crate::specs::Settings::table_setting))]
+fn of_table<'v>(alloc: Global, name: &str, value: &Spot<'v>) -> Result<Option<Setting>, Fault<'v>>
+    ensures { IsReadingOrNone (table_setting name.now (found value.now)) result }
+{
+    Ok(Some(match name {
+        "SetMargin" => Setting::SetMargin(filled(sides(alloc, value)?, Indent::zero())),
+        "SetMarginColor" => Setting::SetMarginColor(sides(alloc, value)?),
         "SetMarginOffset" => {
-            let starts = Sides::filled(Offset::Start(0));
-            with_parts(alloc, value, starts).map(Setting::SetMarginOffset)
+            Setting::SetMarginOffset(filled(sides(alloc, value)?, Offset::Start(0)))
         }
-        "SetBorders" => with_parts(alloc, value, Borders::empty()).map(Setting::SetBorders),
-        "SetBorderDefault" => value.character().map(Setting::SetBorderDefault),
-        "SetBordersColor" => {
-            with_parts(alloc, value, Borders::empty()).map(Setting::SetBordersColor)
-        }
-        "SetBorderColorDefault" => {
-            ANSIBuf::told(alloc, value).map(Setting::SetBorderColorDefault)
-        }
-        _ => value.character().map(Setting::SetBordersMissing),
-    }
+        "SetBorders" => Setting::SetBorders(frame(alloc, value)?),
+        "SetBorderDefault" => Setting::SetBorderDefault(value.character()?),
+        "SetBordersColor" => Setting::SetBordersColor(frame(alloc, value)?),
+        "SetBorderColorDefault" => Setting::SetBorderColorDefault(ANSIBuf::told(alloc, value)?),
+        "SetBordersMissing" => Setting::SetBordersMissing(value.character()?),
+        "RemoveOverriddenHorizontal" => Setting::RemoveOverriddenHorizontal(position(value)?),
+        "RemoveOverriddenVertical" => Setting::RemoveOverriddenVertical(position(value)?),
+        _ => return Ok(None),
+    }))
 }
 
-/// One of the line with a number, by its value.
-fn of_line<'v>(alloc: Global, name: &str, spot: &Spot<'v>) -> Result<Setting, Fault<'v>> {
-    let line = spot.at(1).number()?;
-    let value = spot.at(2);
-    match name {
+/// One of the line with a number, or else one of an entity or of a position, by its value.
+#[tactic(auto, unfolding(crate::specs::Settings::line_setting))]
+fn of_line<'v>(
+    alloc: Global,
+    name: &str,
+    first: &Spot<'v>,
+    second: &Spot<'v>,
+) -> Result<Option<Setting>, Fault<'v>>
+    ensures { IsReadingOrNone (line_setting name.now (found first.now) (found second.now)) result }
+{
+    Ok(Some(match name {
         "InsertHorizontalLine" => {
-            let parts = with_parts(alloc, &value, HorizontalLine::empty());
-            parts.map(|parts| Setting::InsertHorizontalLine(line, parts))
+            Setting::InsertHorizontalLine(first.number()?, horizontal_line(alloc, second)?)
         }
-        "RemoveHorizontalLine" => value
-            .number()
-            .map(|rows| Setting::RemoveHorizontalLine(line, rows)),
+        "RemoveHorizontalLine" => {
+            Setting::RemoveHorizontalLine(first.number()?, second.number()?)
+        }
         "InsertVerticalLine" => {
-            let parts = with_parts(alloc, &value, VerticalLine::empty());
-            parts.map(|parts| Setting::InsertVerticalLine(line, parts))
+            Setting::InsertVerticalLine(first.number()?, vertical_line(alloc, second)?)
         }
-        _ => value
-            .number()
-            .map(|columns| Setting::RemoveVerticalLine(line, columns)),
-    }
+        "RemoveVerticalLine" => Setting::RemoveVerticalLine(first.number()?, second.number()?),
+        _ => return of_entity(alloc, name, first, second),
+    }))
 }
 
-/// One of an entity, by its value.
-fn of_entity<'v>(alloc: Global, name: &str, spot: &Spot<'v>) -> Result<Setting, Fault<'v>> {
-    let entity = entity(&spot.at(1))?;
-    let value = spot.at(2);
-    match name {
+/// One of an entity, or else one of a position, by its value.
+#[tactic(auto, unfolding(crate::specs::Settings::entity_setting))]
+fn of_entity<'v>(
+    alloc: Global,
+    name: &str,
+    first: &Spot<'v>,
+    second: &Spot<'v>,
+) -> Result<Option<Setting>, Fault<'v>>
+    ensures { IsReadingOrNone
+        (entity_setting name.now (found first.now) (found second.now)) result }
+{
+    Ok(Some(match name {
         "SetPadding" => {
-            let padding = with_parts(alloc, &value, no_indents());
-            padding.map(|padding| Setting::SetPadding(entity, padding))
+            Setting::SetPadding(
+                entity(first)?,
+                filled(sides(alloc, second)?, Indent::zero()),
+            )
         }
-        "SetPaddingColor" => {
-            let colors = with_parts(alloc, &value, no_colors());
-            colors.map(|colors| Setting::SetPaddingColor(entity, colors))
-        }
-        "SetTrimHorizontal" => value
-            .flag()
-            .map(|trims| Setting::SetTrimHorizontal(entity, trims)),
-        "SetTrimVertical" => value
-            .flag()
-            .map(|trims| Setting::SetTrimVertical(entity, trims)),
-        "SetLineAlignment" => value
-            .flag()
-            .map(|aligns| Setting::SetLineAlignment(entity, aligns)),
+        "SetPaddingColor" => Setting::SetPaddingColor(entity(first)?, sides(alloc, second)?),
+        "SetTrimHorizontal" => Setting::SetTrimHorizontal(entity(first)?, second.flag()?),
+        "SetTrimVertical" => Setting::SetTrimVertical(entity(first)?, second.flag()?),
+        "SetLineAlignment" => Setting::SetLineAlignment(entity(first)?, second.flag()?),
         "SetAlignmentHorizontal" => {
-            horizontal(&value).map(|alignment| Setting::SetAlignmentHorizontal(entity, alignment))
+            Setting::SetAlignmentHorizontal(entity(first)?, horizontal(second)?)
         }
         "SetAlignmentVertical" => {
-            vertical(&value).map(|alignment| Setting::SetAlignmentVertical(entity, alignment))
+            Setting::SetAlignmentVertical(entity(first)?, vertical(second)?)
         }
-        "SetJustification" => value
-            .character()
-            .map(|fill| Setting::SetJustification(entity, fill)),
-        _ => color(alloc, &value).map(|color| Setting::SetJustificationColor(entity, color)),
-    }
+        "SetJustification" => Setting::SetJustification(entity(first)?, second.character()?),
+        "SetJustificationColor" => {
+            Setting::SetJustificationColor(entity(first)?, color(alloc, second)?)
+        }
+        _ => return of_cell(alloc, name, first, second),
+    }))
 }
 
-/// One of the border, the spans or the overridden characters at a position.
-fn of_cell<'v>(alloc: Global, name: &str, spot: &Spot<'v>) -> Result<Setting, Fault<'v>> {
-    let position = position(&spot.at(1))?;
-    let value = spot.at(2);
-    Ok(match name {
-        "SetBorder" => Setting::SetBorder(position, with_parts(alloc, &value, Border::empty())?),
-        "SetBorderColor" => {
-            Setting::SetBorderColor(position, with_parts(alloc, &value, Border::empty())?)
+/// One of the border or the spans at a position, by its value.
+#[tactic(auto, unfolding(crate::specs::Settings::cell_setting))]
+fn of_cell<'v>(
+    alloc: Global,
+    name: &str,
+    first: &Spot<'v>,
+    second: &Spot<'v>,
+) -> Result<Option<Setting>, Fault<'v>>
+    ensures { IsReadingOrNone (cell_setting name.now (found first.now) (found second.now)) result }
+{
+    let shape = "the numbers of rows and columns";
+    Ok(Some(match name {
+        "SetBorder" => Setting::SetBorder(position(first)?, border(alloc, second)?),
+        "SetBorderColor" => Setting::SetBorderColor(position(first)?, border(alloc, second)?),
+        "RemoveBorder" => Setting::RemoveBorder(position(first)?, second.two_numbers(shape)?),
+        "RemoveBorderColor" => {
+            Setting::RemoveBorderColor(position(first)?, second.two_numbers(shape)?)
         }
-        "RemoveBorder" => Setting::RemoveBorder(position, shape(&value)?),
-        "RemoveBorderColor" => Setting::RemoveBorderColor(position, shape(&value)?),
-        "SetColumnSpan" => Setting::SetColumnSpan(position, value.number()?),
-        "SetRowSpan" => Setting::SetRowSpan(position, value.number()?),
-        "RemoveOverriddenHorizontal" => Setting::RemoveOverriddenHorizontal(position),
-        "RemoveOverriddenVertical" => Setting::RemoveOverriddenVertical(position),
-        _ => return of_character(
-            alloc,
-            name,
-            (position, Offset::told(alloc, &value)?),
-            &spot.at(3),
-        ),
-    })
+        "SetColumnSpan" => Setting::SetColumnSpan(position(first)?, second.number()?),
+        "SetRowSpan" => Setting::SetRowSpan(position(first)?, second.number()?),
+        _ => return Ok(None),
+    }))
 }
 
 /// One of a character of a cell's line, at a position and an offset.
+#[tactic(auto, unfolding(crate::specs::Settings::character_setting))]
 fn of_character<'v>(
     alloc: Global,
     name: &str,
-    (position, offset): (Position, Offset),
-    value: &Spot<'v>,
-) -> Result<Setting, Fault<'v>> {
-    Ok(match name {
-        "SetHorizontalChar" => Setting::SetHorizontalChar(position, offset, value.character()?),
-        "SetVerticalChar" => Setting::SetVerticalChar(position, offset, value.character()?),
-        "SetHorizontalCharColor" => {
-            Setting::SetHorizontalCharColor(position, offset, ANSIBuf::told(alloc, value)?)
+    spot: &Spot<'v>,
+) -> Result<Option<Setting>, Fault<'v>>
+    ensures { IsReadingOrNone (character_setting name.now
+        (option_zip (position_at (item_at 1 (found spot.now)))
+        (offset_at (item_at 2 (found spot.now)))) (item_at 3 (found spot.now))) result }
+{
+    let (at, along, value) = (spot.at(1), spot.at(2), spot.at(3));
+    Ok(Some(match name {
+        "SetHorizontalChar" => {
+            Setting::SetHorizontalChar(
+                position(&at)?,
+                Offset::told(alloc, &along)?,
+                value.character()?,
+            )
         }
-        _ => Setting::SetVerticalCharColor(position, offset, ANSIBuf::told(alloc, value)?),
-    })
-}
-
-fn no_indents() -> Sides<Indent> {
-    Sides::filled(Indent::zero())
-}
-
-fn no_colors() -> Sides<Option<ANSIBuf>> {
-    Sides::new(None, None, None, None)
+        "SetVerticalChar" => {
+            Setting::SetVerticalChar(
+                position(&at)?,
+                Offset::told(alloc, &along)?,
+                value.character()?,
+            )
+        }
+        "SetHorizontalCharColor" => {
+            Setting::SetHorizontalCharColor(
+                position(&at)?,
+                Offset::told(alloc, &along)?,
+                ANSIBuf::told(alloc, &value)?,
+            )
+        }
+        "SetVerticalCharColor" => {
+            Setting::SetVerticalCharColor(
+                position(&at)?,
+                Offset::told(alloc, &along)?,
+                ANSIBuf::told(alloc, &value)?,
+            )
+        }
+        _ => return Ok(None),
+    }))
 }

@@ -1,19 +1,28 @@
 //! What stands at a place of a document, and the plain values there.
 
+ghost use Rattle.std.specs.Prelude.{◌≡◌, option_and_then, option_map};
+ghost use Rattle.serde_json.specs.Find.{as_array, as_object, as_str, at, get};
+ghost use Rattle.serde_json.specs.View.{items_view, members_view, view};
+ghost use Rattle.papergrid_json.specs.Spots.{AreItems, IsReading, IsReadingAs, IsTest, character_at, character_in, count_at, flag_at, found, is_list_of, is_missing, list_at, number_at, two_numbers_at, word_at};
+ghost use Rattle.papergrid_json.specs.declared.error.Fault.TheVariants.{Unexpected};
+
 use crate::error::Fault;
 use crate::place::Place;
 use serde_json::{Map, Value};
+use std::alloc::Global;
 
 /// What stands at a place, if something does.
 #[derive(Clone, Copy)]
 pub struct Spot<'v> {
     pub value: Option<&'v Value>,
-    pub place: Place<'v>,
+    pub place: Place,
 }
 
 impl<'v> Spot<'v> {
     /// A member of the document.
-    pub fn member(document: &'v Value, name: &'static str) -> Spot<'v> {
+    pub fn member(document: &'v Value, name: &'static str) -> Spot<'v>
+        ensures { found result ≡ get name.now (view document.now) }
+    {
         Spot {
             value: document.get(name),
             place: Place::of(name),
@@ -21,10 +30,12 @@ impl<'v> Spot<'v> {
     }
 
     /// An item of the list that stands here.
-    pub fn at(&self, index: usize) -> Spot<'v> {
+    pub fn at(&self, index: usize) -> Spot<'v>
+        ensures { found result ≡ option_and_then (at index) (found self.now) }
+    {
         Spot {
-            value: match self.list() {
-                Some(items) => items.get(index),
+            value: match self.value {
+                Some(value) => value.get(index),
                 None => None,
             },
             place: self.place.at(index),
@@ -32,7 +43,9 @@ impl<'v> Spot<'v> {
     }
 
     /// A field of what stands here.
-    pub fn field(&self, name: &'v str) -> Spot<'v> {
+    pub fn field(&self, name: &'static str) -> Spot<'v>
+        ensures { found result ≡ option_and_then (get name.now) (found self.now) }
+    {
         Spot {
             value: match self.value {
                 Some(value) => value.get(name),
@@ -43,7 +56,9 @@ impl<'v> Spot<'v> {
     }
 
     /// Whether nothing stands here, or `null`.
-    pub fn is_empty(&self) -> bool {
+    pub fn is_empty(&self) -> bool
+        ensures { result ≡ is_missing (found self.now) }
+    {
         match self.value {
             Some(value) => value.is_null(),
             None => true,
@@ -51,7 +66,10 @@ impl<'v> Spot<'v> {
     }
 
     /// The items of the list that stands here.
-    pub fn list(&self) -> Option<&'v [Value]> {
+    pub fn list(&self) -> Option<&'v [Value]>
+        ensures { option_map (λ items. items_view items.now) result
+            ≡ option_and_then as_array (found self.now) }
+    {
         match self.value {
             Some(Value::Array(items)) => Some(items.as_slice()),
             _ => None,
@@ -59,7 +77,10 @@ impl<'v> Spot<'v> {
     }
 
     /// The members of the object that stands here.
-    pub fn members(&self) -> Option<&'v Map<String, Value>> {
+    pub fn members(&self) -> Option<&'v Map<String, Value>>
+        ensures { option_map (λ members. members_view members.now.entries) result
+            ≡ option_and_then as_object (found self.now) }
+    {
         match self.value {
             Some(Value::Object(members)) => Some(members),
             _ => None,
@@ -67,31 +88,47 @@ impl<'v> Spot<'v> {
     }
 
     /// The text that stands here.
-    pub fn text(&self) -> Option<&'v str> {
+    pub fn text(&self) -> Option<&'v str>
+        ensures { option_map (λ text. text.now) result
+            ≡ option_and_then as_str (found self.now) }
+    {
         match self.value {
             Some(Value::String(text)) => Some(text.as_str()),
             _ => None,
         }
     }
 
-    /// The word that stands here, alone or before so many other items of a list; no bytes where there is none.
-    pub fn word(&self) -> (&'v str, usize) {
+    /// How many items the list that stands here has.
+    pub fn count(&self) -> Option<usize>
+        ensures { result ≡ count_at (found self.now) }
+    {
         match self.list() {
-            None => (self.text().unwrap_or(""), 0),
-            Some(items) => (
-                self.at(0).text().unwrap_or(""),
-                items.len().saturating_sub(1),
-            ),
+            Some(items) => Some(items.len()),
+            None => None,
+        }
+    }
+
+    /// The word that stands here, alone or before so many other items of a list.
+    pub fn word(&self) -> Option<(&'v str, usize)>
+        ensures { option_map (λ word. (word.0.now, word.1)) result ≡ word_at (found self.now) }
+    {
+        match self.count() {
+            None => Some((self.text()?, 0)),
+            Some(count) => Some((self.at(0).text()?, count.saturating_sub(1))),
         }
     }
 
     /// That something else is wanted here.
-    pub fn unexpected(&self, wanted: &'static str) -> Fault<'v> {
+    pub fn unexpected(&self, wanted: &'static str) -> Fault<'v>
+        ensures { result ≡ Unexpected self.now.place wanted.entry }
+    {
         Fault::Unexpected(self.place, wanted)
     }
 
     /// The number that stands here.
-    pub fn number(&self) -> Result<usize, Fault<'v>> {
+    pub fn number(&self) -> Result<usize, Fault<'v>>
+        ensures { IsReading (number_at (found self.now)) result }
+    {
         match self.value.and_then(Value::as_u64) {
             Some(number) => Ok(number as usize),
             None => Err(self.unexpected("a whole number from 0 on")),
@@ -99,7 +136,9 @@ impl<'v> Spot<'v> {
     }
 
     /// The truth value that stands here.
-    pub fn flag(&self) -> Result<bool, Fault<'v>> {
+    pub fn flag(&self) -> Result<bool, Fault<'v>>
+        ensures { IsReading (flag_at (found self.now)) result }
+    {
         match self.value {
             Some(Value::Bool(flag)) => Ok(*flag),
             _ => Err(self.unexpected("true or false")),
@@ -107,37 +146,58 @@ impl<'v> Spot<'v> {
     }
 
     /// The character that stands here.
-    pub fn character(&self) -> Result<char, Fault<'v>> {
-        let mut characters = self.text().unwrap_or("").chars();
-        match (characters.next(), characters.next()) {
-            (Some(character), None) => Ok(character),
-            _ => Err(self.unexpected("a text of one character")),
+    pub fn character(&self) -> Result<char, Fault<'v>>
+        ensures { IsReading (character_at (found self.now)) result }
+    {
+        match self.text().and_then(only_character) {
+            Some(character) => Ok(character),
+            None => Err(self.unexpected("a text of one character")),
         }
     }
 
     /// That a list of so many items stands here.
-    pub fn expect_items(&self, count: usize, wanted: &'static str) -> Result<(), Fault<'v>> {
-        match self.list() {
-            Some(items) if items.len() == count => Ok(()),
-            _ => Err(self.unexpected(wanted)),
+    pub fn expect_items(&self, count: usize, wanted: &'static str) -> Result<(), Fault<'v>>
+        ensures { IsTest (is_list_of count (found self.now)) result }
+    {
+        if self.count() == Some(count) {
+            Ok(())
+        } else {
+            Err(self.unexpected(wanted))
         }
     }
 
     /// The two numbers of the list that stands here.
-    pub fn two_numbers(&self, wanted: &'static str) -> Result<(usize, usize), Fault<'v>> {
+    pub fn two_numbers(&self, wanted: &'static str) -> Result<(usize, usize), Fault<'v>>
+        ensures { IsReading (two_numbers_at (found self.now)) result }
+    {
         self.expect_items(2, wanted)?;
         Ok((self.at(0).number()?, self.at(1).number()?))
     }
 
     /// The numbers of the list that stands here.
-    pub fn numbers(&self, alloc: std::alloc::Global) -> Result<Vec<usize>, Fault<'v>> {
-        let Some(items) = self.list() else {
+    pub fn numbers(&self, alloc: Global) -> Result<Vec<usize>, Fault<'v>>
+        ensures { IsReadingAs AreItems (list_at number_at (found self.now)) result }
+    {
+        let Some(count) = self.count() else {
             return Err(self.unexpected("a list of numbers"));
         };
-        let mut numbers = Vec::with_capacity(alloc, items.len())?;
-        for index in 0..items.len() {
+        let mut numbers = Vec::with_capacity(alloc, count)?;
+        for index in 0..count {
             numbers.push(self.at(index).number()?)?;
         }
         Ok(numbers)
+    }
+}
+
+/// The character of a text that is one.
+#[tactic(auto, unfolding(crate::specs::Spots::character_in))]
+fn only_character(text: &str) -> Option<char>
+    ensures { result ≡ character_in text.now }
+{
+    let mut characters = text.chars();
+    let first = characters.next()?;
+    match characters.next() {
+        None => Some(first),
+        Some(_) => None,
     }
 }

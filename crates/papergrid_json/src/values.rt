@@ -1,5 +1,11 @@
 //! The values that settings are made of.
 
+ghost use Rattle.std.specs.Option.{option_zip};
+ghost use Rattle.std.specs.Prelude.{Option, option_map};
+ghost use Rattle.serde_json.specs.Data.{Data};
+ghost use Rattle.papergrid_json.specs.Spots.{IsReading, character_at, found};
+ghost use Rattle.papergrid_json.specs.Values.{color_at, entity_at, horizontal_at, indent_at, offset_at, optional_color_at, position_at, vertical_at};
+
 use crate::error::Fault;
 use crate::spot::Spot;
 use papergrid_values::{
@@ -9,17 +15,26 @@ use std::alloc::Global;
 
 /// A value that a document tells.
 pub trait Told: Drop {
+    /// The value that what stands at a place tells.
+    ghost told_at: { Option Data → Option Self };
+
     /// The value that stands at a place.
-    fn told<'v>(alloc: Global, spot: &Spot<'v>) -> Result<Self, Fault<'v>>;
+    fn told<'v>(alloc: Global, spot: &Spot<'v>) -> Result<Self, Fault<'v>>
+        ensures { IsReading (told_at (found spot.now)) result };
 }
 
 impl Told for char {
+    ghost told_at = { character_at };
+
     fn told<'v>(_alloc: Global, spot: &Spot<'v>) -> Result<char, Fault<'v>> {
         spot.character()
     }
 }
 
 impl Told for Indent {
+    ghost told_at = { indent_at };
+
+    #[tactic(auto, unfolding(crate::specs::Values::indent_at))]
     fn told<'v>(_alloc: Global, spot: &Spot<'v>) -> Result<Indent, Fault<'v>> {
         spot.expect_items(2, "a size and a character, as [1, \" \"]")?;
         Ok(Indent::new(spot.at(0).number()?, spot.at(1).character()?))
@@ -27,88 +42,104 @@ impl Told for Indent {
 }
 
 impl Told for Offset {
+    ghost told_at = { offset_at };
+
+    #[tactic(auto, unfolding(crate::specs::Values::offset_at))]
     fn told<'v>(_alloc: Global, spot: &Spot<'v>) -> Result<Offset, Fault<'v>> {
         match spot.word() {
-            ("Start", 1) => spot.at(1).number().map(Offset::Start),
-            ("End", 1) => spot.at(1).number().map(Offset::End),
+            Some(("Start", 1)) => Ok(Offset::Start(spot.at(1).number()?)),
+            Some(("End", 1)) => Ok(Offset::End(spot.at(1).number()?)),
             _ => Err(spot.unexpected("[\"Start\", number] or [\"End\", number]")),
         }
     }
 }
 
 impl Told for ANSIBuf {
+    ghost told_at = { color_at };
+
+    #[tactic(auto, unfolding(crate::specs::Values::color_at))]
     fn told<'v>(alloc: Global, spot: &Spot<'v>) -> Result<ANSIBuf, Fault<'v>> {
         let wanted = "the text before what is coloured and the one after it";
         spot.expect_items(2, wanted)?;
-        color_of(alloc, spot, (spot.at(0).text(), spot.at(1).text()), wanted)
+        color_of(alloc, spot, spot.at(0).text(), spot.at(1).text(), wanted)
     }
 }
 
-/// The colour that stands at a place, by the text before what is coloured and the one after it.
+/// The colour by the text before what is coloured and the one after it.
 pub fn color_of<'v>(
     alloc: Global,
     spot: &Spot<'v>,
-    texts: (Option<&str>, Option<&str>),
+    prefix: Option<&str>,
+    suffix: Option<&str>,
     wanted: &'static str,
-) -> Result<ANSIBuf, Fault<'v>> {
-    match texts {
+) -> Result<ANSIBuf, Fault<'v>>
+    ensures { IsReading (option_zip (option_map (λ text. text.now) prefix.entry)
+        (option_map (λ text. text.now) suffix.entry)) result }
+{
+    match (prefix, suffix) {
         (Some(prefix), Some(suffix)) => Ok(ANSIBuf::new(alloc, prefix, suffix)?),
         _ => Err(spot.unexpected(wanted)),
     }
 }
 
 /// The colour that stands at a place, none where nothing does.
-pub fn color<'v>(alloc: Global, spot: &Spot<'v>) -> Result<Option<ANSIBuf>, Fault<'v>> {
+#[tactic(auto, unfolding(crate::specs::Values::optional_color_at))]
+pub fn color<'v>(alloc: Global, spot: &Spot<'v>) -> Result<Option<ANSIBuf>, Fault<'v>>
+    ensures { IsReading (optional_color_at (found spot.now)) result }
+{
     if spot.is_empty() {
         return Ok(None);
     }
-    ANSIBuf::told(alloc, spot).map(Some)
+    Ok(Some(ANSIBuf::told(alloc, spot)?))
 }
 
 /// The entity that stands at a place.
-pub fn entity<'v>(spot: &Spot<'v>) -> Result<Entity, Fault<'v>> {
+#[tactic(auto, unfolding(crate::specs::Values::entity_at))]
+pub fn entity<'v>(spot: &Spot<'v>) -> Result<Entity, Fault<'v>>
+    ensures { IsReading (entity_at (found spot.now)) result }
+{
     match spot.word() {
-        ("Global", 0) => Ok(Entity::Global),
-        ("Column", 1) => spot.at(1).number().map(Entity::Column),
-        ("Row", 1) => spot.at(1).number().map(Entity::Row),
-        ("Cell", 2) => cell(&spot.at(1), &spot.at(2)),
+        Some(("Global", 0)) => Ok(Entity::Global),
+        Some(("Column", 1)) => Ok(Entity::Column(spot.at(1).number()?)),
+        Some(("Row", 1)) => Ok(Entity::Row(spot.at(1).number()?)),
+        Some(("Cell", 2)) => Ok(Entity::Cell(spot.at(1).number()?, spot.at(2).number()?)),
         _ => Err(spot.unexpected(
             "\"Global\", [\"Column\", number], [\"Row\", number] or [\"Cell\", row, column]",
         )),
     }
 }
 
-fn cell<'v>(row: &Spot<'v>, column: &Spot<'v>) -> Result<Entity, Fault<'v>> {
-    Ok(Entity::Cell(row.number()?, column.number()?))
-}
-
 /// The position that stands at a place.
-pub fn position<'v>(spot: &Spot<'v>) -> Result<Position, Fault<'v>> {
+#[tactic(auto, unfolding(crate::specs::Values::position_at))]
+pub fn position<'v>(spot: &Spot<'v>) -> Result<Position, Fault<'v>>
+    ensures { IsReading (position_at (found spot.now)) result }
+{
     let (row, column) = spot.two_numbers("[row, column]")?;
     Ok(Position::new(row, column))
 }
 
-/// The numbers of rows and columns that stand at a place.
-pub fn shape<'v>(spot: &Spot<'v>) -> Result<(usize, usize), Fault<'v>> {
-    spot.two_numbers("the numbers of rows and columns")
-}
-
 /// The horizontal alignment that stands at a place.
-pub fn horizontal<'v>(spot: &Spot<'v>) -> Result<AlignmentHorizontal, Fault<'v>> {
-    match spot.text().unwrap_or("") {
-        "Left" => Ok(AlignmentHorizontal::Left),
-        "Center" => Ok(AlignmentHorizontal::Center),
-        "Right" => Ok(AlignmentHorizontal::Right),
+#[tactic(auto, unfolding(crate::specs::Values::horizontal_at))]
+pub fn horizontal<'v>(spot: &Spot<'v>) -> Result<AlignmentHorizontal, Fault<'v>>
+    ensures { IsReading (horizontal_at (found spot.now)) result }
+{
+    match spot.text() {
+        Some("Left") => Ok(AlignmentHorizontal::Left),
+        Some("Center") => Ok(AlignmentHorizontal::Center),
+        Some("Right") => Ok(AlignmentHorizontal::Right),
         _ => Err(spot.unexpected("\"Left\", \"Center\" or \"Right\"")),
     }
 }
 
 /// The vertical alignment that stands at a place.
-pub fn vertical<'v>(spot: &Spot<'v>) -> Result<AlignmentVertical, Fault<'v>> {
-    match spot.text().unwrap_or("") {
-        "Top" => Ok(AlignmentVertical::Top),
-        "Center" => Ok(AlignmentVertical::Center),
-        "Bottom" => Ok(AlignmentVertical::Bottom),
+#[tactic(auto, unfolding(crate::specs::Values::vertical_at))]
+pub fn vertical<'v>(spot: &Spot<'v>) -> Result<AlignmentVertical, Fault<'v>>
+    ensures { IsReading (vertical_at (found spot.now)) result }
+{
+    match spot.text() {
+        Some("Top") => Ok(AlignmentVertical::Top),
+        Some("Center") => Ok(AlignmentVertical::Center),
+        Some("Bottom") => Ok(AlignmentVertical::Bottom),
         _ => Err(spot.unexpected("\"Top\", \"Center\" or \"Bottom\"")),
     }
 }

@@ -1,0 +1,162 @@
+-- Lists, read item by item.
+use Rattle.std.proofs.Common.{◌≡◌, ◌<◌, ◌≤◌, ◌+◌, ◌++◌, ◌∷◌, [], ℕ, zero, suc, List, Option, Some, None, refl, sym, ap, ◌∙◌, arith, cond, Bool, true, false, Err, append-nil, append_assoc}
+use Rattle.std.specs.Option.{option_or, option_zip}
+use Rattle.std.specs.Prelude.{if◌then◌else◌, option_and_then, option_map}
+use Rattle.serde_json.specs.Data.{Data, Items, no_items, item, null, boolean, number, string, array, object}
+use Rattle.serde_json.specs.Find.{as_array, get_item}
+use Rattle.std.proofs.lemmas.Option.{none-some, same_Some}
+use Rattle.std.specs.BTreeMap.{BTreeMap, get}
+use Rattle.std.specs.Ordering.{is_eq}
+use Rattle.papergrid_values.specs.MapKeys.{position_cmp}
+use Rattle.papergrid_values.specs.declared.position.Position.{Position}
+use Rattle.papergrid_json.specs.Documents.{AreColors, color_in, items_at, optional_list_at}
+use Rattle.papergrid_json.specs.Spots.{IsReading, IsReadingAs, count, each, is_missing, item_at, list_at}
+use Rattle.papergrid_json.specs.declared.error.Fault.{Fault}
+use Rattle.papergrid_json.specs.declared.error.Fault.TheVariants.{Memory, Unexpected, UnknownSetting}
+
+map_map : {A B C : Type 0} (f : B → C) (g : A → B) (o : Option A) → option_map f (option_map g o) ≡ option_map (λ a. f (g a)) o
+map_map f g None = refl
+map_map f g (Some a) = refl
+
+map_same : {A : Type 0} (o : Option A) → option_map (λ a. a) o ≡ o
+map_same None = refl
+map_same (Some a) = refl
+
+-- the items from one on
+abbrev pub from : ℕ → Items → Items
+from zero items = items
+from (suc n) no_items = no_items
+from (suc n) (item first items) = from n items
+
+module _ {A : Type 0} (read : Option Data → Option A) where
+  -- what was read, and the items behind it
+  abbrev pub behind : List A → Items → Option (List A)
+  behind done items = option_map (λ more. done ++ more) (each read items)
+
+  pub at_start : (items : Items) → behind [] items ≡ each read items
+  at_start items = map_same (each read items)
+
+  pub at_end : (done : List A) → behind done no_items ≡ Some done
+  at_end done = ap Some (append-nil done)
+
+  pub read_one : (done : List A) (first : Data) (items : Items) (a : A) → read (Some first) ≡ Some a → behind done (item first items) ≡ behind (done ++ a ∷ []) items
+  read_one done first items a is = rw is (one_more (each read items))
+    where
+      one_more : (o : Option (List A)) → option_map (λ more. done ++ more) (option_map (λ told. told.0 ∷ told.1) (option_zip (Some a) o)) ≡ option_map (λ more. (done ++ a ∷ []) ++ more) o
+      one_more None = refl
+      one_more (Some more) = ap Some (sym (append_assoc done (a ∷ []) more))
+
+  pub read_none : (done : List A) (first : Data) (items : Items) → read (Some first) ≡ None → behind done (item first items) ≡ None
+  read_none done first items is = rw is refl
+
+-- an item before the end
+nth : (items : Items) (n : ℕ) → n < count items → (first : Data) × (get_item n items ≡ Some first) × (from n items ≡ item first (from (suc n) items))
+nth no_items n h = absurd (omega (arith, h))
+nth (item first items) zero h = (first, refl, refl)
+nth (item first items) (suc n) h = nth items n (omega (arith, h))
+
+past_last : (items : Items) (n : ℕ) → count items ≤ n → from n items ≡ no_items
+past_last no_items zero h = refl
+past_last no_items (suc n) h = refl
+past_last (item first items) zero h = absurd (omega (arith, h))
+past_last (item first items) (suc n) h = past_last items n (omega (arith, h))
+
+module _ (here : Option Data) (items : Items) where
+  -- each item stands at its index
+  abbrev pub StandThere : Type 0
+  StandThere = (n : ℕ) → n < count items → item_at n here ≡ get_item n items
+
+  pub in_list : option_and_then as_array here ≡ Some items → StandThere
+  in_list h n = is_array here h n
+    where
+      is_array : (at : Option Data) → option_and_then as_array at ≡ Some items → (n : ℕ) → n < count items → item_at n at ≡ get_item n items
+      is_array None h n less = absurd (none-some items h)
+      is_array (Some null) h n less = absurd (none-some items h)
+      is_array (Some (boolean b)) h n less = absurd (none-some items h)
+      is_array (Some (number x)) h n less = absurd (none-some items h)
+      is_array (Some (string text)) h n less = absurd (none-some items h)
+      is_array (Some (array listed)) h n less = ap (get_item n) (same_Some _ _ h)
+      is_array (Some (object fields)) h n less = absurd (none-some items h)
+
+  pub in_optional_list : items_at here ≡ Some items → StandThere
+  unfolding items_at
+  in_optional_list h n less = by_test (is_missing here) h
+    where
+      by_test : (b : Bool) → (if b then Some no_items else option_and_then as_array here) ≡ Some items → item_at n here ≡ get_item n items
+      by_test true h = let none : 0 ≡ count items = ap count (same_Some _ _ h) in absurd (omega (arith, less, none))
+      by_test false h = in_list h n less
+
+  module _ {A : Type 0} (read : Option Data → Option A) (there : StandThere) (done : List A) (n : ℕ) (less : n < count items) (spot : Option Data) (at : spot ≡ item_at n here) where
+    one : {x : Option A} → read spot ≡ x → read (Some (nth items n less).0) ≡ x
+    one is = sym (ap read (at ∙ there n less ∙ (nth items n less).1)) ∙ is
+
+    -- an item is read
+    pub read_at : (a : A) → read spot ≡ Some a → behind read done (from n items) ≡ behind read (done ++ a ∷ []) (from (n + 1) items)
+    read_at a is =
+        let next : suc n ≡ n + 1 = omega arith in
+        ap (behind read done) (nth items n less).2 ∙ read_one read done _ _ a (one is) ∙ ap (λ m. behind read (done ++ a ∷ []) (from m items)) next
+
+    -- an item tells nothing
+    pub none_at : read spot ≡ None → behind read done (from n items) ≡ None
+    none_at is = ap (behind read done) (nth items n less).2 ∙ read_none read done _ _ (one is)
+
+-- all are read
+pub all_read : {A : Type 0} (read : Option Data → Option A) (items : Items) (done : List A) (n : ℕ) → count items ≤ n → behind read done (from n items) ≡ Some done
+all_read read items done n h = ap (behind read done) (past_last items n h) ∙ at_end read done
+
+-- where one fault is that of another
+pub refused_with : {A B C : Type 0} (Is : A → B → Type 0) (told : Option A) (one : Option C) (fault : Fault) → (one ≡ None → told ≡ None) → IsReading {A = C} one (Err fault) → IsReadingAs Is told (Err fault)
+refused_with Is told one Memory none h = tt
+refused_with Is told one (Unexpected place wanted) none h = none h
+refused_with Is told one (UnknownSetting index name) none h = none h
+
+-- as many items as were counted
+pub counted : (items : Option Items) (n : ℕ) → option_map count items ≡ Some n → (listed : Items) × (items ≡ Some listed) × (count listed ≡ n)
+counted None n h = absurd (none-some n h)
+counted (Some listed) n h = (listed, refl, same_Some _ _ h)
+
+uncounted : (items : Option Items) → option_map count items ≡ None → items ≡ None
+uncounted None h = refl
+uncounted (Some items) h = absurd (none-some _ (sym h))
+
+module _ {A : Type 0} (read : Option Data → Option A) (here : Option Data) where
+  -- no list
+  pub no_list : option_map count (option_and_then as_array here) ≡ None → list_at read here ≡ None
+  unfolding list_at
+  no_list h = ap (option_and_then (each read)) (uncounted _ h)
+
+  pub no_count : option_map count (items_at here) ≡ None → optional_list_at read here ≡ None
+  unfolding optional_list_at
+  no_count h = ap (option_and_then (each read)) (uncounted _ h)
+
+  -- none is read yet
+  pub list_begins : (items : Items) (done : List A) → done ≡ [] → option_and_then as_array here ≡ Some items → behind read done items ≡ list_at read here
+  unfolding list_at
+  list_begins items done none h = ap (λ done. behind read done items) none ∙ at_start read items ∙ ap (option_and_then (each read)) (sym h)
+
+  pub optional_list_begins : (items : Items) (done : List A) → done ≡ [] → items_at here ≡ Some items → behind read done items ≡ optional_list_at read here
+  unfolding optional_list_at
+  optional_list_begins items done none h = ap (λ done. behind read done items) none ∙ at_start read items ∙ ap (option_and_then (each read)) (sym h)
+
+-- ---- colours
+
+-- the colours of a list with one more
+pub color_of_more : (colors : List (Position × (List ℕ × List ℕ))) (one : Position × (List ℕ × List ℕ)) (position : Position)
+    → color_in (colors ++ one ∷ []) position ≡ (if is_eq (position_cmp one.0 position) then Some one.1 else color_in colors position)
+color_of_more [] one position = refl
+color_of_more (first ∷ colors) one position =
+    ap (λ later. option_or later (if is_eq (position_cmp first.0 position) then Some first.1 else None)) (color_of_more colors one position)
+    ∙ by_test (is_eq (position_cmp one.0 position))
+  where
+    earlier : Option (List ℕ × List ℕ)
+    earlier = if is_eq (position_cmp first.0 position) then Some first.1 else None
+
+    by_test : (b : Bool) → option_or (if b then Some one.1 else color_in colors position) earlier ≡ (if b then Some one.1 else option_or (color_in colors position) earlier)
+    by_test true = refl
+    by_test false = refl
+
+-- one more is put where it belongs
+pub colors_with : (done : List (Position × (List ℕ × List ℕ))) (one : Position × (List ℕ × List ℕ)) (before after : BTreeMap Position (List ℕ × List ℕ)) → AreColors done before
+    → ((position : Position) → get position_cmp after position ≡ cond (is_eq (position_cmp one.0 position)) (Some one.1) (get position_cmp before position)) → AreColors (done ++ one ∷ []) after
+colors_with done one before after were put position =
+    put position ∙ ap (cond (is_eq (position_cmp one.0 position)) (Some one.1)) (were position) ∙ sym (color_of_more done one position)

@@ -1,0 +1,2 @@
+-- Definitions that private functions alone are told by.
+pub mod Reading

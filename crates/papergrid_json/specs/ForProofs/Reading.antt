@@ -1,0 +1,65 @@
+-- A document while it is read.
+use Rattle.std.specs.Prelude.{◌≡◌, ℕ, true, false, List, Option, Some, None, Result, Ok, Err, length, option_map, string_bytes, unwrap_or, ⊤, IsUtf8}
+use Rattle.serde_json.specs.Data.{Data}
+use Rattle.serde_json.specs.Read.{read}
+use Rattle.serde_json.specs.View.{view}
+use Rattle.serde_json.specs.declared.value.Value.{Value}
+use Rattle.papergrid_json.specs.Documents.{AreColors, IsDocument, Told, told_in, are_enough, fitted, document_texts, longest_row, own_sizes}
+use Rattle.papergrid_json.specs.declared.document.Document.{Document}
+use Rattle.papergrid_json.specs.declared.document.Draft.{Draft}
+use Rattle.papergrid_json.specs.declared.document.OwnSizes.{OwnSizes}
+use Rattle.papergrid_json.specs.declared.error.DocumentError.{DocumentError}
+use Rattle.papergrid_json.specs.declared.error.DocumentError.TheVariants as document_error
+use Rattle.papergrid_json.specs.declared.error.Fault.{Fault}
+use Rattle.papergrid_json.specs.declared.error.Fault.TheVariants as fault
+
+-- the JSON value that a text is, or why it is none
+abbrev pub IsJsonRead : List ℕ → Result Value DocumentError → Type 0
+IsJsonRead text (Ok value) = read text ≡ Some (view value)
+IsJsonRead text (Err document_error.Memory) = ⊤
+IsJsonRead text (Err (document_error.Syntax line byte)) = IsUtf8 text → read text ≡ None
+IsJsonRead text (Err error) = ⊥
+
+-- what is read of a JSON value: what it tells, where it tells a document
+abbrev pub IsTableRead : Data → Result Document DocumentError → Type 0
+IsTableRead value (Ok document) = (told : Told × List (List (List ℕ))) × (told_in value ≡ Some told) × IsDocument told document
+IsTableRead value (Err document_error.Memory) = ⊤
+IsTableRead value (Err (document_error.Syntax line byte)) = ⊥
+IsTableRead value (Err error) = told_in value ≡ None
+
+-- a fault in words of its own, or out of memory
+abbrev pub IsErrorOf : Fault → DocumentError → Type 0
+IsErrorOf f document_error.Memory = ⊤
+IsErrorOf (fault.Unexpected place wanted) (document_error.Unexpected path words) = words ≡ wanted
+IsErrorOf (fault.UnknownSetting index name) (document_error.UnknownSetting number word) = (number ≡ index) × (string_bytes word ≡ name.now)
+IsErrorOf f error = ⊥
+
+-- the draft of what is told
+pub record IsDraft (told : Told) (draft : Draft) : Type 0 where
+  pub columns : draft.columns ≡ told.0.0
+  pub settings : draft.settings.items ≡ told.0.1
+  pub sizes : option_map own_sizes draft.sizes ≡ told.1.0
+  pub colors : AreColors told.1.1 draft.colors
+
+-- sizes that are enough are cut
+abbrev pub AreOwnSizes : ℕ → ℕ → Option (List ℕ × List ℕ) → Result (Option OwnSizes) Fault → Type 0
+AreOwnSizes columns rows told (Ok sizes) = (are_enough columns rows told ≡ true) × (option_map own_sizes sizes ≡ option_map (fitted columns rows) told)
+AreOwnSizes columns rows told (Err fault.Memory) = ⊥
+AreOwnSizes columns rows told (Err e) = are_enough columns rows told ≡ false
+
+module _ (draft : Draft) (texts : List (List (List ℕ))) where
+  abbrev pub draft_columns : ℕ
+  draft_columns = unwrap_or draft.columns (longest_row texts)
+
+  -- the document of a draft and these rows
+  pub record IsOfDraft (document : Document) : Type 0 where
+    pub columns : document.columns ≡ draft_columns
+    pub settings : document.settings ≡ draft.settings
+    pub rows : document_texts document ≡ texts
+    pub sizes : option_map own_sizes document.sizes ≡ option_map (fitted draft_columns (length texts)) (option_map own_sizes draft.sizes)
+    pub colors : document.colors ≡ draft.colors
+
+  abbrev pub IsFinished : Result Document Fault → Type 0
+  IsFinished (Ok document) = (are_enough draft_columns (length texts) (option_map own_sizes draft.sizes) ≡ true) × IsOfDraft document
+  IsFinished (Err fault.Memory) = ⊥
+  IsFinished (Err e) = are_enough draft_columns (length texts) (option_map own_sizes draft.sizes) ≡ false
