@@ -9,8 +9,9 @@ use Rattle.std.specs.BTreeMap.{BTreeMap, get}
 use Rattle.std.specs.Ordering.{is_eq}
 use Rattle.papergrid_values.specs.MapKeys.{position_cmp}
 use Rattle.papergrid_values.specs.declared.position.Position.{Position}
-use Rattle.papergrid_json.specs.Documents.{AreColors, color_in, items_at, optional_list_at}
-use Rattle.papergrid_json.specs.Spots.{IsReading, IsReadingAs, count, each, is_missing, item_at, list_at}
+use Rattle.papergrid_json.specs.Documents.{AreColors, color_in, items_at}
+use Rattle.papergrid_json.specs.ForProofs.Reading.{IsReading, IsReadingAs}
+use Rattle.papergrid_json.specs.Spots.{count, each, is_missing, item_at}
 use Rattle.papergrid_json.specs.declared.error.Fault.{Fault}
 use Rattle.papergrid_json.specs.declared.error.Fault.TheVariants.{Memory, Unexpected, UnknownSetting}
 
@@ -33,20 +34,20 @@ module _ {A : Type 0} (read : Option Data → Option A) where
   abbrev pub behind : List A → Items → Option (List A)
   behind done items = option_map (λ more. done ++ more) (each read items)
 
-  pub at_start : (items : Items) → behind [] items ≡ each read items
+  at_start : (items : Items) → behind [] items ≡ each read items
   at_start items = map_same (each read items)
 
-  pub at_end : (done : List A) → behind done no_items ≡ Some done
+  at_end : (done : List A) → behind done no_items ≡ Some done
   at_end done = ap Some (append-nil done)
 
-  pub read_one : (done : List A) (first : Data) (items : Items) (a : A) → read (Some first) ≡ Some a → behind done (item first items) ≡ behind (done ++ a ∷ []) items
+  read_one : (done : List A) (first : Data) (items : Items) (a : A) → read (Some first) ≡ Some a → behind done (item first items) ≡ behind (done ++ a ∷ []) items
   read_one done first items a is = rw is (one_more (each read items))
     where
       one_more : (o : Option (List A)) → option_map (λ more. done ++ more) (option_map (λ told. told.0 ∷ told.1) (option_zip (Some a) o)) ≡ option_map (λ more. (done ++ a ∷ []) ++ more) o
       one_more None = refl
       one_more (Some more) = ap Some (sym (append_assoc done (a ∷ []) more))
 
-  pub read_none : (done : List A) (first : Data) (items : Items) → read (Some first) ≡ None → behind done (item first items) ≡ None
+  read_none : (done : List A) (first : Data) (items : Items) → read (Some first) ≡ None → behind done (item first items) ≡ None
   read_none done first items is = rw is refl
 
 -- an item before the end
@@ -91,17 +92,17 @@ module _ (here : Option Data) (items : Items) where
     one is = sym (ap read (at ∙ there n less ∙ (nth items n less).1)) ∙ is
 
     -- an item is read
-    pub read_at : (a : A) → read spot ≡ Some a → behind read done (from n items) ≡ behind read (done ++ a ∷ []) (from (n + 1) items)
+    read_at : (a : A) → read spot ≡ Some a → behind read done (from n items) ≡ behind read (done ++ a ∷ []) (from (n + 1) items)
     read_at a is =
         let next : suc n ≡ n + 1 = omega arith in
         ap (behind read done) (nth items n less).2 ∙ read_one read done _ _ a (one is) ∙ ap (λ m. behind read (done ++ a ∷ []) (from m items)) next
 
     -- an item tells nothing
-    pub none_at : read spot ≡ None → behind read done (from n items) ≡ None
+    none_at : read spot ≡ None → behind read done (from n items) ≡ None
     none_at is = ap (behind read done) (nth items n less).2 ∙ read_none read done _ _ (one is)
 
 -- all are read
-pub all_read : {A : Type 0} (read : Option Data → Option A) (items : Items) (done : List A) (n : ℕ) → count items ≤ n → behind read done (from n items) ≡ Some done
+all_read : {A : Type 0} (read : Option Data → Option A) (items : Items) (done : List A) (n : ℕ) → count items ≤ n → behind read done (from n items) ≡ Some done
 all_read read items done n h = ap (behind read done) (past_last items n h) ∙ at_end read done
 
 -- where one fault is that of another
@@ -111,7 +112,7 @@ refused_with Is told one (Unexpected place wanted) none h = none h
 refused_with Is told one (UnknownSetting index name) none h = none h
 
 -- as many items as were counted
-pub counted : (items : Option Items) (n : ℕ) → option_map count items ≡ Some n → (listed : Items) × (items ≡ Some listed) × (count listed ≡ n)
+counted : (items : Option Items) (n : ℕ) → option_map count items ≡ Some n → (listed : Items) × (items ≡ Some listed) × (count listed ≡ n)
 counted None n h = absurd (none-some n h)
 counted (Some listed) n h = (listed, refl, same_Some _ _ h)
 
@@ -119,24 +120,41 @@ uncounted : (items : Option Items) → option_map count items ≡ None → items
 uncounted None h = refl
 uncounted (Some items) h = absurd (none-some _ (sym h))
 
-module _ {A : Type 0} (read : Option Data → Option A) (here : Option Data) where
-  -- no list
-  pub no_list : option_map count (option_and_then as_array here) ≡ None → list_at read here ≡ None
-  unfolding list_at
-  no_list h = ap (option_and_then (each read)) (uncounted _ h)
+-- ---- a list that is read by an index
 
-  pub no_count : option_map count (items_at here) ≡ None → optional_list_at read here ≡ None
-  unfolding optional_list_at
-  no_count h = ap (option_and_then (each read)) (uncounted _ h)
+module _ {A : Type 0} (read : Option Data → Option A) (here : Option Data) (list : Option Items) where
+  abbrev pub told_by_list : Option (List A)
+  told_by_list = option_and_then (each read) list
 
-  -- none is read yet
-  pub list_begins : (items : Items) (done : List A) → done ≡ [] → option_and_then as_array here ≡ Some items → behind read done items ≡ list_at read here
-  unfolding list_at
-  list_begins items done none h = ap (λ done. behind read done items) none ∙ at_start read items ∙ ap (option_and_then (each read)) (sym h)
+  -- so many items have been read, of as many as there are
+  abbrev pub IsReadTo : Option (List A) → List A → ℕ → ℕ → Type 0
+  IsReadTo told done n end = (items : Items) × (list ≡ Some items) × (count items ≡ end) × (behind read done (from n items) ≡ told)
 
-  pub optional_list_begins : (items : Items) (done : List A) → done ≡ [] → items_at here ≡ Some items → behind read done items ≡ optional_list_at read here
-  unfolding optional_list_at
-  optional_list_begins items done none h = ap (λ done. behind read done items) none ∙ at_start read items ∙ ap (option_and_then (each read)) (sym h)
+  module _ (told : Option (List A)) (is : told_by_list ≡ told) where
+    pub begun : (done : List A) (end : ℕ) → option_map count list ≡ Some end → done ≡ [] → IsReadTo told done 0 end
+    begun done end h none =
+        let listed = counted list end h in
+        (listed.0, listed.1, listed.2, ap (λ done. behind read done listed.0) none ∙ at_start read listed.0 ∙ ap (option_and_then (each read)) (sym listed.1) ∙ is)
+
+    -- there is no list
+    pub unlisted : option_map count list ≡ None → told ≡ None
+    unlisted h = sym is ∙ ap (option_and_then (each read)) (uncounted list h)
+
+  module _ (told : Option (List A)) (there : (items : Items) → list ≡ Some items → StandThere here items) (done : List A) (n end : ℕ) (so : IsReadTo told done n end) where
+    pub finished : end ≤ n → told ≡ Some done
+    finished h = sym so.3 ∙ all_read read so.0 done n (omega (arith, h, so.2))
+
+    module _ (less : n < end) (spot : Option Data) (at : spot ≡ item_at n here) where
+      before_end : n < count so.0
+      before_end = omega (arith, less, so.2)
+
+      pub goes_on : (a : A) (more : List A) → read spot ≡ Some a → more ≡ done ++ a ∷ [] → IsReadTo told more (n + 1) end
+      goes_on a more is grown =
+          let one = read_at here so.0 read (there so.0 so.1) done n before_end spot at a is in
+          (so.0, so.1, so.2, ap (λ done. behind read done (from (n + 1) so.0)) grown ∙ sym one ∙ so.3)
+
+      pub refused : read spot ≡ None → told ≡ None
+      refused is = sym so.3 ∙ none_at here so.0 read (there so.0 so.1) done n before_end spot at is
 
 -- ---- colours
 

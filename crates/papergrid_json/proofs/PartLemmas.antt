@@ -2,7 +2,8 @@
 use Rattle.std.proofs.Common.{◌≡◌, ◌<◌, ◌≤◌, ◌+◌, ◌||◌, ℕ, zero, suc, List, [], ◌∷◌, Bool, true, false, true≢false, Bor, length, drop, map, get_or, sym, ap, ◌∙◌, arith, refl, Option, Some, Result, Err}
 use Rattle.std.specs.Prelude.{bytes_eq, codes}
 use Rattle.serde_json.specs.Data.{Data}
-use Rattle.papergrid_json.specs.Spots.{IsReading, IsTest, when}
+use Rattle.papergrid_json.specs.ForProofs.Reading.{IsReading, IsTest}
+use Rattle.papergrid_json.specs.Spots.{when}
 use Rattle.papergrid_json.specs.Values.{are_named_at, four, frame_at, frame_by_parts, is_named, within_at}
 use Rattle.papergrid_json.specs.declared.error.Fault.{Fault}
 use Rattle.papergrid_json.specs.declared.error.Fault.TheVariants.{Memory, Unexpected, UnknownSetting}

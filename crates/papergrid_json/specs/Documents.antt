@@ -45,18 +45,22 @@ colored_at here = when (is_list_of 4 here)
 abbrev pub Told : Type 0
 Told = (Option ℕ × List Setting) × (Option (List ℕ × List ℕ) × List (Position × (List ℕ × List ℕ)))
 
+-- a number, or none where nothing stands
 unfoldable pub optional_number_at : Option Data → Option (Option ℕ)
 optional_number_at here = if is_missing here then Some None else option_map Some (number_at here)
 
+-- a list, each item as it is read; no items where nothing stands
 unfoldable pub optional_list_at : {A : Type 0} → (Option Data → Option A) → Option Data → Option (List A)
 optional_list_at read here = option_and_then (each read) (items_at here)
 
+-- widths and heights of one's own, or none where nothing stands
 unfoldable pub own_sizes_at : Option Data → Option (Option (List ℕ × List ℕ))
 own_sizes_at here =
     if is_missing here then Some None
     else option_map Some (option_zip (list_at number_at (member_at (codes "widths") here)) (list_at number_at (member_at (codes "heights") here)))
 
 module _ (document : Data) where
+  -- the same of a JSON value
   unfoldable pub draft_in : Option Told
   draft_in = when (is_some (json.as_object document)) (option_zip
       (option_zip (optional_number_at (json.get (codes "columns") document)) (optional_list_at accepted_at (json.get (codes "settings") document)))
@@ -66,6 +70,7 @@ module _ (document : Data) where
   unfoldable pub row_texts_in : Option (List (List (List ℕ)))
   row_texts_in = list_at (list_at text_at) (json.get (codes "records") document)
 
+-- the number of texts of the longest row
 abbrev pub longest_row : List (List (List ℕ)) → ℕ
 longest_row [] = 0
 longest_row (row ∷ rows) = max (length row) (longest_row rows)
@@ -94,16 +99,19 @@ abbrev pub color_in : List (Position × (List ℕ × List ℕ)) → Position →
 color_in [] position = None
 color_in (first ∷ colors) position = option_or (color_in colors position) (if is_eq (position_cmp first.0 position) then Some first.1 else None)
 
+-- a map has the colours of a list
 abbrev pub AreColors : List (Position × (List ℕ × List ℕ)) → BTreeMap Position (List ℕ × List ℕ) → Type 0
 AreColors told colors = (position : Position) → get position_cmp colors position ≡ color_in told position
 
+-- widths, and heights
 abbrev pub own_sizes : OwnSizes → List ℕ × List ℕ
 own_sizes sizes = (sizes.widths.items, sizes.heights.items)
 
--- the texts of rows, and of a document, row by row
+-- the texts of rows
 abbrev pub row_texts : List (Vec (String Global) Global) → List (List (List ℕ))
 row_texts rows = map (λ row. map string_bytes row.items) rows
 
+-- the texts of a document, row by row
 abbrev pub document_texts : Document → List (List (List ℕ))
 document_texts document = row_texts document.rows.items
 
@@ -121,6 +129,7 @@ pub record IsDocument (told : Told × List (List (List ℕ))) (document : Docume
 abbrev pub document_in : List ℕ → Option (Told × List (List (List ℕ)))
 document_in text = option_and_then told_in (read text)
 
+-- the setting that it tells, if it may be applied
 abbrev pub setting_in : List ℕ → Option Setting
 setting_in text = option_and_then (λ value. accepted_at (Some value)) (read text)
 

@@ -11,8 +11,9 @@ use Rattle.papergrid_values.specs.Compact.{spaces}
 use Rattle.papergrid_json.specs.Spots.{character_at, flag_at, item_at, number_at, two_numbers_at, word_at}
 use Rattle.papergrid_json.specs.Values.{border_at, color_at, entity_at, filled_sides, frame_at, horizontal_at, horizontal_parts_at, indent_at, of_both, offset_at, optional_color_at, position_at, sides_at, vertical_at, vertical_parts_at}
 
--- ---- by no value
+-- ---- settings
 
+-- one that removes all of a kind, by its name alone
 unfoldable pub bare_setting : List ℕ → Option Setting
 bare_setting name =
     if bytes_eq name (codes "RemoveBorders") then Some RemoveBorders
@@ -26,8 +27,7 @@ bare_setting name =
     else None
 
 module _ (name : List ℕ) where
-  -- ---- by one value
-
+  -- one by one value: of the margins, of the frame, or of the characters of a cell's lines that are removed
   unfoldable pub table_setting : Option Data → Option Setting
   table_setting value =
       if bytes_eq name (codes "SetMargin") then option_map (λ told. SetMargin (filled_sides (spaces 0) told)) (sides_at indent_at value)
@@ -42,9 +42,8 @@ module _ (name : List ℕ) where
       else if bytes_eq name (codes "RemoveOverriddenVertical") then option_map RemoveOverriddenVertical (position_at value)
       else None
 
-  -- ---- by two values, of which the first is a position, an entity, or the number of a line
-
   module _ (first second : Option Data) where
+    -- one by a position and a value
     unfoldable pub cell_setting : Option Setting
     cell_setting =
         if bytes_eq name (codes "SetBorder") then of_both SetBorder (position_at first) (border_at character_at second)
@@ -55,6 +54,7 @@ module _ (name : List ℕ) where
         else if bytes_eq name (codes "SetRowSpan") then of_both SetRowSpan (position_at first) (number_at second)
         else None
 
+    -- one by an entity and a value, or the same
     unfoldable pub entity_setting : Option Setting
     entity_setting =
         if bytes_eq name (codes "SetPadding") then of_both (λ entity told. SetPadding entity (filled_sides (spaces 0) told)) (entity_at first) (sides_at indent_at second)
@@ -68,6 +68,7 @@ module _ (name : List ℕ) where
         else if bytes_eq name (codes "SetJustificationColor") then of_both SetJustificationColor (entity_at first) (optional_color_at second)
         else cell_setting
 
+    -- one by the number of a line and a value, or the same
     unfoldable pub line_setting : Option Setting
     line_setting =
         if bytes_eq name (codes "InsertHorizontalLine") then of_both InsertHorizontalLine (number_at first) (horizontal_parts_at character_at second)
@@ -76,9 +77,7 @@ module _ (name : List ℕ) where
         else if bytes_eq name (codes "RemoveVerticalLine") then of_both RemoveVerticalLine (number_at first) (number_at second)
         else entity_setting
 
-  -- ---- by three values
-
-  -- one of a character of a cell's line, at a position and an offset
+  -- one by a position, an offset, and the character of a cell's line or its colour
   unfoldable pub character_setting : Option (Position × Offset) → Option Data → Option Setting
   character_setting at value =
       if bytes_eq name (codes "SetHorizontalChar") then of_both (λ at. SetHorizontalChar at.0 at.1) at (character_at value)

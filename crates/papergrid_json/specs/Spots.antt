@@ -1,44 +1,8 @@
--- What stands at a place of a JSON value, and what is read there.
-use Rattle.std.specs.Prelude.{◌≡◌, ℕ, suc, ◌-◌, Bool, true, false, if◌then◌else◌, List, [], ◌∷◌, Option, Some, None, Result, Ok, Err, option_and_then, option_map, unwrap_or, is_some, chars, ⊤, ◌==◌, Vec}
-use Rattle.std.specs.Global.{Global}
+-- Plain values and lists at a place of a JSON value, where something may stand or nothing.
+use Rattle.std.specs.Prelude.{ℕ, suc, ◌-◌, Bool, true, false, if◌then◌else◌, List, [], ◌∷◌, Option, Some, None, option_and_then, option_map, unwrap_or, is_some, chars, ◌==◌}
 use Rattle.std.specs.Option.{option_zip}
 use Rattle.serde_json.specs.Data.{Data, Items, no_items, item}
 use Rattle.serde_json.specs.Find.{as_array, as_bool, as_null, as_number, as_str, as_u64, at, get}
-use Rattle.serde_json.specs.View.{view}
-use Rattle.papergrid_json.specs.declared.error.Fault.{Fault}
-use Rattle.papergrid_json.specs.declared.error.Fault.TheVariants.{Memory}
-use Rattle.papergrid_json.specs.declared.spot.Spot.{Spot}
-
--- what stands there, if something does
-abbrev pub found : Spot → Option Data
-found spot = option_map (λ value. view value.now) spot.value
-
--- what is read is what is told; nothing is told where another fault than of memory is found
-abbrev pub IsReading : {A : Type 0} → Option A → Result A Fault → Type 0
-IsReading told (Ok value) = told ≡ Some value
-IsReading told (Err Memory) = ⊤
-IsReading told (Err fault) = told ≡ None
-
--- what is read is as what is told by this relation
-abbrev pub IsReadingAs : {A B : Type 0} → (A → B → Type 0) → Option A → Result B Fault → Type 0
-IsReadingAs {A} Is told (Ok value) = (it : A) × (told ≡ Some it) × Is it value
-IsReadingAs Is told (Err Memory) = ⊤
-IsReadingAs Is told (Err fault) = told ≡ None
-
-abbrev pub AreItems : {A : Type 0} → List A → Vec A Global → Type 0
-AreItems told items = items.items ≡ told
-
--- the same, where nothing may be read since nothing is told
-abbrev pub IsReadingOrNone : {A : Type 0} → Option A → Result (Option A) Fault → Type 0
-IsReadingOrNone told (Ok value) = told ≡ value
-IsReadingOrNone told (Err Memory) = ⊤
-IsReadingOrNone told (Err fault) = told ≡ None
-
--- a test is passed exactly where this is so
-abbrev pub IsTest : Bool → Result ⊤ Fault → Type 0
-IsTest so (Ok passed) = so ≡ true
-IsTest so (Err Memory) = ⊤
-IsTest so (Err fault) = so ≡ false
 
 -- nothing, or `null`
 abbrev pub is_missing : Option Data → Bool
@@ -51,9 +15,11 @@ is_missing (Some value) = is_some (as_null value)
 abbrev pub number_at : Option Data → Option ℕ
 number_at here = option_and_then as_u64 (option_and_then as_number here)
 
+-- true or false
 abbrev pub flag_at : Option Data → Option Bool
 flag_at here = option_and_then as_bool here
 
+-- a text, as its bytes
 abbrev pub text_at : Option Data → Option (List ℕ)
 text_at here = option_and_then as_str here
 
@@ -67,11 +33,13 @@ only (c ∷ next ∷ cs) = None
 unfoldable pub character_in : List ℕ → Option ℕ
 character_in text = only (chars text)
 
+-- the same of a text that stands there
 abbrev pub character_at : Option Data → Option ℕ
 character_at here = option_and_then character_in (text_at here)
 
 -- ---- lists
 
+-- how many there are
 abbrev pub count : Items → ℕ
 count no_items = 0
 count (item d rest) = suc (count rest)
@@ -84,10 +52,11 @@ item_at index here = option_and_then (at index) here
 abbrev pub member_at : List ℕ → Option Data → Option Data
 member_at name here = option_and_then (get name) here
 
--- how many items the list there has
+-- how many items the list has that stands there
 abbrev pub count_at : Option Data → Option ℕ
 count_at here = option_map count (option_and_then as_array here)
 
+-- whether a list of so many items stands there
 abbrev pub is_list_of : ℕ → Option Data → Bool
 is_list_of n here = unwrap_or (option_map (λ items. items == n) (count_at here)) false
 
@@ -99,11 +68,12 @@ when b told = if b then told else None
 abbrev pub two_numbers_at : Option Data → Option (ℕ × ℕ)
 two_numbers_at here = when (is_list_of 2 here) (option_zip (number_at (item_at 0 here)) (number_at (item_at 1 here)))
 
--- the items, each as it is read
+-- items, each as it is read; nothing where one of them tells nothing
 abbrev pub each : {A : Type 0} → (Option Data → Option A) → Items → Option (List A)
 each read no_items = Some []
 each read (item first items) = option_map (λ told. told.0 ∷ told.1) (option_zip (read (Some first)) (each read items))
 
+-- a list, each item as it is read
 unfoldable pub list_at : {A : Type 0} → (Option Data → Option A) → Option Data → Option (List A)
 list_at read here = option_and_then (each read) (option_and_then as_array here)
 

@@ -37,9 +37,11 @@ entity_by_word here word =
     else if bytes_eq word.0 (codes "Cell") && word.1 == 2 then of_both Cell (number_at (item_at 1 here)) (number_at (item_at 2 here))
     else None
 
+-- the entity that stands there
 unfoldable pub entity_at : Option Data → Option Entity
 entity_at here = option_and_then (entity_by_word here) (word_at here)
 
+-- a horizontal alignment by its word
 abbrev pub horizontal_by_word : List ℕ → Option AlignmentHorizontal
 horizontal_by_word word =
     if bytes_eq word (codes "Left") then Some horizontal.Left
@@ -47,9 +49,11 @@ horizontal_by_word word =
     else if bytes_eq word (codes "Right") then Some horizontal.Right
     else None
 
+-- the same that stands there
 unfoldable pub horizontal_at : Option Data → Option AlignmentHorizontal
 horizontal_at here = option_and_then horizontal_by_word (text_at here)
 
+-- a vertical alignment by its word
 abbrev pub vertical_by_word : List ℕ → Option AlignmentVertical
 vertical_by_word word =
     if bytes_eq word (codes "Top") then Some vertical.Top
@@ -57,6 +61,7 @@ vertical_by_word word =
     else if bytes_eq word (codes "Bottom") then Some vertical.Bottom
     else None
 
+-- the same that stands there
 unfoldable pub vertical_at : Option Data → Option AlignmentVertical
 vertical_at here = option_and_then vertical_by_word (text_at here)
 
@@ -65,12 +70,14 @@ unfoldable pub indent_at : Option Data → Option Indent
 indent_at here = when (is_list_of 2 here)
     (of_both (λ size fill. record { fill = fill; size = size }) (number_at (item_at 0 here)) (character_at (item_at 1 here)))
 
+-- an offset by its word, and by the number behind it
 abbrev pub offset_by_word : Option Data → List ℕ × ℕ → Option Offset
 offset_by_word here word =
     if bytes_eq word.0 (codes "Start") && word.1 == 1 then option_map Start (number_at (item_at 1 here))
     else if bytes_eq word.0 (codes "End") && word.1 == 1 then option_map End (number_at (item_at 1 here))
     else None
 
+-- the same that stands there
 unfoldable pub offset_at : Option Data → Option Offset
 offset_at here = option_and_then (offset_by_word here) (word_at here)
 
@@ -84,6 +91,7 @@ optional_color_at here = if is_missing here then Some None else option_map Some 
 
 -- ---- values by parts
 
+-- whether a name is one of these
 abbrev pub is_named : List ℕ → List (List ℕ) → Bool
 is_named name [] = false
 is_named name (first ∷ names) = bytes_eq name first || is_named name names
@@ -102,14 +110,17 @@ module _ {A : Type 0} (told : Option Data → Option A) (here : Option Data) whe
   unfoldable pub named_part : List ℕ → Option (Option A)
   named_part name = if is_missing (member_at name here) then Some None else option_map Some (told (member_at name here))
 
+  -- the parts of four names
   unfoldable pub four : List ℕ → List ℕ → List ℕ → List ℕ → Option ((Option A × Option A) × (Option A × Option A))
   four a b c d = option_zip (option_zip (named_part a) (named_part b)) (option_zip (named_part c) (named_part d))
 
+  -- an object of four sides
   unfoldable pub sides_at : Option (Sides (Option A))
   sides_at = when (are_named_at (codes "top" ∷ codes "bottom" ∷ codes "left" ∷ codes "right" ∷ []) here)
       (option_map (λ told. record { top = told.0.0; bottom = told.0.1; left = told.1.0; right = told.1.1 })
       (four (codes "top") (codes "bottom") (codes "left") (codes "right")))
 
+  -- an object of the border of a cell: sides, and corners
   unfoldable pub border_at : Option (Border A)
   border_at = when (are_named_at (
       codes "top" ∷ codes "bottom" ∷ codes "left" ∷ codes "right"
@@ -131,6 +142,7 @@ module _ {A : Type 0} (told : Option Data → Option A) (here : Option Data) whe
   unfoldable pub within_at : Option ((Option A × Option A) × Option A)
   within_at = option_zip (option_zip (named_part (codes "horizontal")) (named_part (codes "vertical"))) (named_part (codes "intersection"))
 
+  -- a frame, with what stands within it
   unfoldable pub frame_by_parts : Option (Borders A)
   frame_by_parts = of_both (λ ends sides. record {
     top = ends.0.0.0;
@@ -153,6 +165,7 @@ module _ {A : Type 0} (told : Option Data → Option A) (here : Option Data) whe
       (four (codes "bottom") (codes "bottom_left") (codes "bottom_right") (codes "bottom_intersection")))
       (option_zip (four (codes "left") (codes "left_intersection") (codes "right") (codes "right_intersection")) within_at)
 
+  -- an object of these
   unfoldable pub frame_at : Option (Borders A)
   frame_at = when (are_named_at (
       codes "top" ∷ codes "top_left" ∷ codes "top_right" ∷ codes "top_intersection"
@@ -160,11 +173,13 @@ module _ {A : Type 0} (told : Option Data → Option A) (here : Option Data) whe
       ∷ codes "left" ∷ codes "left_intersection" ∷ codes "right" ∷ codes "right_intersection"
       ∷ codes "horizontal" ∷ codes "vertical" ∷ codes "intersection" ∷ []) here) frame_by_parts
 
+  -- an object of a horizontal line
   unfoldable pub horizontal_parts_at : Option (HorizontalLine A)
   horizontal_parts_at = when (are_named_at (codes "main" ∷ codes "intersection" ∷ codes "left" ∷ codes "right" ∷ []) here)
       (option_map (λ told. record { main = told.0.0; intersection = told.0.1; left = told.1.0; right = told.1.1 })
       (four (codes "main") (codes "intersection") (codes "left") (codes "right")))
 
+  -- an object of a vertical line
   unfoldable pub vertical_parts_at : Option (VerticalLine A)
   vertical_parts_at = when (are_named_at (codes "main" ∷ codes "intersection" ∷ codes "top" ∷ codes "bottom" ∷ []) here)
       (option_map (λ told. record { main = told.0.0; intersection = told.0.1; top = told.1.0; bottom = told.1.1 })

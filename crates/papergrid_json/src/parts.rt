@@ -3,7 +3,7 @@
 ghost use Rattle.std.specs.Option.{option_zip};
 ghost use Rattle.std.specs.Prelude.{◌≡◌, map};
 ghost use Rattle.serde_json.specs.View.{members_view};
-ghost use Rattle.papergrid_json.specs.Spots.{IsReading, IsTest, found};
+ghost use Rattle.papergrid_json.specs.ForProofs.Reading.{IsReading, IsTest, found};
 ghost use Rattle.papergrid_json.specs.Values.{are_named, are_named_at, border_at, filled_sides, four, frame_at, frame_by_parts, horizontal_parts_at, is_named, named_part, sides_at, vertical_parts_at, within_at};
 
 use crate::error::Fault;

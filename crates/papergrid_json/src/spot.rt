@@ -3,7 +3,8 @@
 ghost use Rattle.std.specs.Prelude.{◌≡◌, option_and_then, option_map};
 ghost use Rattle.serde_json.specs.Find.{as_array, as_object, as_str, at, get};
 ghost use Rattle.serde_json.specs.View.{items_view, members_view, view};
-ghost use Rattle.papergrid_json.specs.Spots.{AreItems, IsReading, IsReadingAs, IsTest, character_at, character_in, count_at, flag_at, found, is_list_of, is_missing, list_at, number_at, two_numbers_at, word_at};
+ghost use Rattle.papergrid_json.specs.ForProofs.Reading.{AreItems, IsReading, IsReadingAs, IsTest, found};
+ghost use Rattle.papergrid_json.specs.Spots.{character_at, character_in, count_at, flag_at, is_list_of, is_missing, list_at, number_at, two_numbers_at, word_at};
 ghost use Rattle.papergrid_json.specs.declared.error.Fault.TheVariants.{Unexpected};
 
 use crate::error::Fault;

@@ -3,7 +3,8 @@
 ghost use Rattle.std.specs.Option.{option_zip};
 ghost use Rattle.std.specs.Prelude.{Option, option_map};
 ghost use Rattle.serde_json.specs.Data.{Data};
-ghost use Rattle.papergrid_json.specs.Spots.{IsReading, character_at, found};
+ghost use Rattle.papergrid_json.specs.ForProofs.Reading.{IsReading, found};
+ghost use Rattle.papergrid_json.specs.Spots.{character_at};
 ghost use Rattle.papergrid_json.specs.Values.{color_at, entity_at, horizontal_at, indent_at, offset_at, optional_color_at, position_at, vertical_at};
 
 use crate::error::Fault;

@@ -1,5 +1,6 @@
--- A document while it is read.
-use Rattle.std.specs.Prelude.{◌≡◌, ℕ, true, false, List, Option, Some, None, Result, Ok, Err, length, option_map, string_bytes, unwrap_or, ⊤, IsUtf8}
+-- What private functions read, and a document while it is read.
+use Rattle.std.specs.Prelude.{◌≡◌, ℕ, Bool, true, false, List, Option, Some, None, Result, Ok, Err, length, option_map, string_bytes, unwrap_or, ⊤, IsUtf8, Vec}
+use Rattle.std.specs.Global.{Global}
 use Rattle.serde_json.specs.Data.{Data}
 use Rattle.serde_json.specs.Read.{read}
 use Rattle.serde_json.specs.View.{view}
@@ -10,8 +11,41 @@ use Rattle.papergrid_json.specs.declared.document.Draft.{Draft}
 use Rattle.papergrid_json.specs.declared.document.OwnSizes.{OwnSizes}
 use Rattle.papergrid_json.specs.declared.error.DocumentError.{DocumentError}
 use Rattle.papergrid_json.specs.declared.error.DocumentError.TheVariants as document_error
+use Rattle.papergrid_json.specs.declared.spot.Spot.{Spot}
 use Rattle.papergrid_json.specs.declared.error.Fault.{Fault}
 use Rattle.papergrid_json.specs.declared.error.Fault.TheVariants as fault
+
+-- what stands there, if something does
+abbrev pub found : Spot → Option Data
+found spot = option_map (λ value. view value.now) spot.value
+
+-- what is read is what is told; nothing is told where another fault than of memory is found
+abbrev pub IsReading : {A : Type 0} → Option A → Result A Fault → Type 0
+IsReading told (Ok value) = told ≡ Some value
+IsReading told (Err fault.Memory) = ⊤
+IsReading told (Err e) = told ≡ None
+
+-- what is read is as what is told by this relation
+abbrev pub IsReadingAs : {A B : Type 0} → (A → B → Type 0) → Option A → Result B Fault → Type 0
+IsReadingAs {A} Is told (Ok value) = (it : A) × (told ≡ Some it) × Is it value
+IsReadingAs Is told (Err fault.Memory) = ⊤
+IsReadingAs Is told (Err e) = told ≡ None
+
+-- a vector of these
+abbrev pub AreItems : {A : Type 0} → List A → Vec A Global → Type 0
+AreItems told items = items.items ≡ told
+
+-- the same, where nothing may be read since nothing is told
+abbrev pub IsReadingOrNone : {A : Type 0} → Option A → Result (Option A) Fault → Type 0
+IsReadingOrNone told (Ok value) = told ≡ value
+IsReadingOrNone told (Err fault.Memory) = ⊤
+IsReadingOrNone told (Err e) = told ≡ None
+
+-- a test is passed exactly where this is so
+abbrev pub IsTest : Bool → Result ⊤ Fault → Type 0
+IsTest so (Ok passed) = so ≡ true
+IsTest so (Err fault.Memory) = ⊤
+IsTest so (Err e) = so ≡ false
 
 -- the JSON value that a text is, or why it is none
 abbrev pub IsJsonRead : List ℕ → Result Value DocumentError → Type 0

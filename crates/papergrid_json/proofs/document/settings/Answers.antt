@@ -1,43 +1,38 @@
-use Rattle.std.proofs.Common.{ap, arith, refl, rules, sym, ◌+◌, ◌<◌, ◌∙◌}
+use Rattle.std.proofs.Common.{arith, refl, rules}
 use Rattle.papergrid_json.specs.Documents.{accepted_at, items_at, optional_list_at}
-use Rattle.papergrid_json.specs.Spots.{AreItems, count, found}
-use Rattle.papergrid_json.proofs.EachLemmas.{all_read, behind, counted, from, in_optional_list, no_count, none_at, optional_list_begins, read_at, refused_with}
+use Rattle.papergrid_json.specs.ForProofs.Reading.{AreItems, found}
+use Rattle.papergrid_json.proofs.EachLemmas.{begun, finished, goes_on, in_optional_list, refused, refused_with, unlisted}
 use Rattle.papergrid_json.proofs.document.settings.Goals as goal
 
 pub returns-in_err-index-end : goal.returns-in_err-index-end
+unfolding optional_list_at
 returns-in_err-index-end c =
     let here = found c.args.spot.now in
-    search (rules, refused_with AreItems (optional_list_at accepted_at here) _ c.in_err-index-end.field-0.0 (no_count accepted_at here) c.in_err-index-end.ensures)
+    let none = unlisted accepted_at here (items_at here) (optional_list_at accepted_at here) refl in
+    search (rules, refused_with AreItems (optional_list_at accepted_at here) _ c.in_err-index-end.field-0.0 none c.in_err-index-end.ensures)
 
 pub loop-index-init : goal.loop-index-init
+unfolding optional_list_at
 loop-index-init c =
     let here = found c.args.spot.now in
-    let listed = counted (items_at here) _ c.in_ok-index-end.ensures in
-    (listed.0, listed.1, listed.2, optional_list_begins accepted_at here listed.0 _ c.new-settings.ensures.items listed.1)
+    begun accepted_at here (items_at here) (optional_list_at accepted_at here) refl _ _ c.in_ok-index-end.ensures c.new-settings.ensures.items
 
 pub returns-in_err-accepted : goal.returns-in_err-accepted
 returns-in_err-accepted c =
     let here = found c.args.spot.now in
     let l = c.loop-index in
-    let items = l.invariant.0 in
-    let less : l.index < count items = omega (arith, c.loop-index-test.true, l.invariant.2) in
-    search (
-      rules,
-      refused_with AreItems (optional_list_at accepted_at here) _ c.in_err-accepted.field-0.0
-          (λ none. sym l.invariant.3 ∙ none_at here items accepted_at (in_optional_list here items l.invariant.1) l.settings.items l.index less _ c.at.ensures none)
-          c.in_err-accepted.ensures.read,
-    )
+    let none = refused accepted_at here (items_at here) (optional_list_at accepted_at here) (in_optional_list here) l.settings.items l.index _ l.invariant c.loop-index-test.true _ c.at.ensures in
+    search (rules, refused_with AreItems (optional_list_at accepted_at here) _ c.in_err-accepted.field-0.0 none c.in_err-accepted.ensures.read)
 
 pub loop-index-preserved : goal.loop-index-preserved
 loop-index-preserved c =
     let here = found c.args.spot.now in
     let l = c.loop-index in
-    let items = l.invariant.0 in
-    let less : l.index < count items = omega (arith, c.loop-index-test.true, l.invariant.2) in
-    let read = read_at here items accepted_at (in_optional_list here items l.invariant.1) l.settings.items l.index less _ c.at.ensures _ c.in_ok-accepted.ensures.read in
-    (items, l.invariant.1, l.invariant.2, ap (λ settings. behind accepted_at settings (from (l.index + 1) items)) c.in_ok-push.ensures.items ∙ sym read ∙ l.invariant.3)
+    goes_on accepted_at here (items_at here) (optional_list_at accepted_at here) (in_optional_list here) l.settings.items l.index _ l.invariant c.loop-index-test.true _ c.at.ensures _ _
+    c.in_ok-accepted.ensures.read c.in_ok-push.ensures.items
 
 pub returns : goal.returns
 returns c =
+    let here = found c.args.spot.now in
     let l = c.loop-index in
-    (l.settings.items, sym l.invariant.3 ∙ all_read accepted_at l.invariant.0 l.settings.items l.index (omega (arith, c.loop-index-test.false, l.invariant.2)), refl)
+    (l.settings.items, finished accepted_at here (items_at here) _ (in_optional_list here) l.settings.items l.index _ l.invariant (omega (arith, c.loop-index-test.false)), refl)
