@@ -70,17 +70,22 @@ when_told : {A : Type 0} (so : Bool) (o : Option A) (a : A) → when so o ≡ So
 when_told true o a h = h
 when_told false o a h = absurd (none-some a h)
 
-draft_in_range : (document : Data) (told : Told) → draft_in document ≡ Some told → AreInRange told.0.1
+made : {A B : Type 0} (f : A → B) (o : Option A) (b : B) → option_map f o ≡ Some b → (a : A) × (o ≡ Some a) × (f a ≡ b)
+made f None b h = absurd (none-some b h)
+made f (Some a) b h = (a, refl, same_Some _ _ h)
+
+draft_in_range : (document : Data) (told : Told) → draft_in document ≡ Some told → AreInRange told.settings
 unfolding draft_in
 draft_in_range document told h =
-    let parts = zip_some _ _ told (when_told (is_some (json.as_object document)) _ told h) in
-    listed_in_range _ _ (zip_some _ _ told.0 parts.0).1
+    let parts = made _ _ told (when_told (is_some (json.as_object document)) _ told h) in
+    let both = zip_some _ _ parts.0 parts.1 in
+    subst (λ (t : Told). AreInRange t.settings) parts.2 (listed_in_range _ _ (zip_some _ _ parts.0.0 both.0).1)
 
-told_in_range : (document : Data) (told : Told × List (List (List ℕ))) → told_in document ≡ Some told → AreInRange told.0.0.1
+told_in_range : (document : Data) (told : Told × List (List (List ℕ))) → told_in document ≡ Some told → AreInRange told.0.settings
 told_in_range document told h = by_both (option_zip (draft_in document) (row_texts_in document)) refl h
   where
     by_both : (o : Option (Told × List (List (List ℕ)))) → option_zip (draft_in document) (row_texts_in document) ≡ o
-        → option_and_then (λ t. when (are_enough (columns_of t.0 t.1) (length t.1) t.0.1.0) (Some t)) o ≡ Some told → AreInRange told.0.0.1
+        → option_and_then (λ t. when (are_enough (columns_of t.0 t.1) (length t.1) t.0.sizes) (Some t)) o ≡ Some told → AreInRange told.0.settings
     by_both None is h = absurd (none-some told h)
     by_both (Some t) is h =
         let same = (when_some _ t told h).1 in
@@ -96,7 +101,7 @@ read_in_range value (Err e) h = tt
 pub draft_told : (document : Data) (columns : Option ℕ) (settings : List Setting) (sizes : Option (List ℕ × List ℕ)) (colors : List (Position × (List ℕ × List ℕ)))
     → is_some (json.as_object document) ≡ true → optional_number_at (json.get (codes "columns") document) ≡ Some columns
     → optional_list_at accepted_at (json.get (codes "settings") document) ≡ Some settings → own_sizes_at (json.get (codes "sizes") document) ≡ Some sizes
-    → optional_list_at colored_at (json.get (codes "colors") document) ≡ Some colors → draft_in document ≡ Some ((columns, settings), (sizes, colors))
+    → optional_list_at colored_at (json.get (codes "colors") document) ≡ Some colors → draft_in document ≡ Some (record { columns = columns; settings = settings; sizes = sizes; colors = colors })
 unfolding draft_in
 draft_told document columns settings sizes colors an_object a b c d = rw (an_object, a, b, c, d) refl
 
@@ -104,7 +109,7 @@ module _ (value : Data) (told : Told) (draft : Draft) (rows : List (List (List �
   pub is_told : draft_in value ≡ Some told → row_texts_in value ≡ Some rows → IsDraft told draft → are_enough (draft_columns draft rows) (length rows) (option_map own_sizes draft.sizes) ≡ true
       → told_in value ≡ Some (told, rows)
   is_told a b is enough =
-      let enough_told : are_enough (columns_of told rows) (length rows) told.1.0 ≡ true = subst (λ columns. are_enough columns (length rows) told.1.0 ≡ true) (same_columns is) (subst (λ sizes. are_enough (draft_columns draft rows) (length rows) sizes ≡ true) is.sizes enough) in
+      let enough_told : are_enough (columns_of told rows) (length rows) told.sizes ≡ true = subst (λ columns. are_enough columns (length rows) told.sizes ≡ true) (same_columns is) (subst (λ sizes. are_enough (draft_columns draft rows) (length rows) sizes ≡ true) is.sizes enough) in
       rw (a, b, enough_told) refl
     where
       same_columns : IsDraft told draft → draft_columns draft rows ≡ columns_of told rows
@@ -117,7 +122,7 @@ module _ (value : Data) (told : Told) (draft : Draft) (rows : List (List (List �
         columns = of.columns ∙ same;
         settings = ap (λ settings. settings.items) of.settings ∙ is.settings;
         rows = of.rows;
-        sizes = of.sizes ∙ ap (option_map (fitted (draft_columns draft rows) (length rows))) is.sizes ∙ ap (λ columns. option_map (fitted columns (length rows)) told.1.0) same;
+        sizes = of.sizes ∙ ap (option_map (fitted (draft_columns draft rows) (length rows))) is.sizes ∙ ap (λ columns. option_map (fitted columns (length rows)) told.sizes) same;
         colors = λ position. ap (λ colors. get position_cmp colors position) of.colors ∙ is.colors position;
       }
 

@@ -41,9 +41,12 @@ colored_at here = when (is_list_of 4 here)
 
 -- ---- a document
 
--- what an object tells but its rows: a number of columns, settings, sizes and colours, as far as it tells them
-abbrev pub Told : Type 0
-Told = (Option ℕ × List Setting) × (Option (List ℕ × List ℕ) × List (Position × (List ℕ × List ℕ)))
+-- what a document tells but its rows, as far as it tells that: the number of columns; settings; widths and heights of its own; colours of texts
+pub record Told : Type 0 where
+  pub columns : Option ℕ
+  pub settings : List Setting
+  pub sizes : Option (List ℕ × List ℕ)
+  pub colors : List (Position × (List ℕ × List ℕ))
 
 -- a number, or none where nothing stands
 unfoldable pub optional_number_at : Option Data → Option (Option ℕ)
@@ -60,9 +63,10 @@ own_sizes_at here =
     else option_map Some (option_zip (list_at number_at (member_at (codes "widths") here)) (list_at number_at (member_at (codes "heights") here)))
 
 module _ (document : Data) where
-  -- the same of a JSON value
+  -- this of a JSON value
   unfoldable pub draft_in : Option Told
-  draft_in = when (is_some (json.as_object document)) (option_zip
+  draft_in = when (is_some (json.as_object document))
+      (of_both (λ first second. record { columns = first.0; settings = first.1; sizes = second.0; colors = second.1 })
       (option_zip (optional_number_at (json.get (codes "columns") document)) (optional_list_at accepted_at (json.get (codes "settings") document)))
       (option_zip (own_sizes_at (json.get (codes "sizes") document)) (optional_list_at colored_at (json.get (codes "colors") document))))
 
@@ -77,7 +81,7 @@ longest_row (row ∷ rows) = max (length row) (longest_row rows)
 
 -- the number of columns: as told, or that of the longest row
 abbrev pub columns_of : Told → List (List (List ℕ)) → ℕ
-columns_of told rows = unwrap_or told.0.0 (longest_row rows)
+columns_of told rows = unwrap_or told.columns (longest_row rows)
 
 -- whether there is a width for each column and a height for each row
 abbrev pub are_enough : ℕ → ℕ → Option (List ℕ × List ℕ) → Bool
@@ -91,7 +95,7 @@ fitted columns rows sizes = (take columns sizes.0, take rows sizes.1)
 -- what a document tells
 abbrev pub told_in : Data → Option (Told × List (List (List ℕ)))
 told_in document = option_and_then
-    (λ told. when (are_enough (columns_of told.0 told.1) (length told.1) told.0.1.0) (Some told))
+    (λ told. when (are_enough (columns_of told.0 told.1) (length told.1) told.0.sizes) (Some told))
     (option_zip (draft_in document) (row_texts_in document))
 
 -- the colour of the last one at a position
@@ -118,10 +122,10 @@ document_texts document = row_texts document.rows.items
 -- a document with what is told
 pub record IsDocument (told : Told × List (List (List ℕ))) (document : Document) : Type 0 where
   pub columns : document.columns ≡ columns_of told.0 told.1
-  pub settings : document.settings.items ≡ told.0.0.1
+  pub settings : document.settings.items ≡ told.0.settings
   pub rows : document_texts document ≡ told.1
-  pub sizes : option_map own_sizes document.sizes ≡ option_map (fitted (columns_of told.0 told.1) (length told.1)) told.0.1.0
-  pub colors : AreColors told.0.1.1 document.colors
+  pub sizes : option_map own_sizes document.sizes ≡ option_map (fitted (columns_of told.0 told.1) (length told.1)) told.0.sizes
+  pub colors : AreColors told.0.colors document.colors
 
 -- ---- what is read
 

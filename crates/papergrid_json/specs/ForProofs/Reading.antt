@@ -70,10 +70,10 @@ IsErrorOf f error = ⊥
 
 -- the draft of what is told
 pub record IsDraft (told : Told) (draft : Draft) : Type 0 where
-  pub columns : draft.columns ≡ told.0.0
-  pub settings : draft.settings.items ≡ told.0.1
-  pub sizes : option_map own_sizes draft.sizes ≡ told.1.0
-  pub colors : AreColors told.1.1 draft.colors
+  pub columns : draft.columns ≡ told.columns
+  pub settings : draft.settings.items ≡ told.settings
+  pub sizes : option_map own_sizes draft.sizes ≡ told.sizes
+  pub colors : AreColors told.colors draft.colors
 
 -- sizes that are enough are cut
 abbrev pub AreOwnSizes : ℕ → ℕ → Option (List ℕ × List ℕ) → Result (Option OwnSizes) Fault → Type 0

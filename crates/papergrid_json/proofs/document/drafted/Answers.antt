@@ -8,7 +8,7 @@ returns c =
     let settings = c.in_ok-settings.ensures in
     let sizes = c.in_ok-sizes.ensures in
     let colors = c.in_ok-colors.ensures in (
-      ((c.in_ok-optional_number.field-0, settings.0), (sizes.0, colors.0)),
+      record { columns = c.in_ok-optional_number.field-0; settings = settings.0; sizes = sizes.0; colors = colors.0 },
       draft_told _ _ _ _ _ (sym c.if-not-is_object.ensures) (ap optional_number_at (sym c.member.ensures) ∙ c.in_ok-optional_number.ensures)
           (ap (optional_list_at accepted_at) (sym c.member-2.ensures) ∙ settings.1) (ap own_sizes_at (sym c.member-3.ensures) ∙ sizes.1)
           (ap (optional_list_at colored_at) (sym c.member-4.ensures) ∙ colors.1),
