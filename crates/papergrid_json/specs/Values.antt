@@ -112,7 +112,7 @@ module _ {A : Type 0} (told : Option Data → Option A) (here : Option Data) whe
 
   -- the parts of four names
   unfoldable pub four : List ℕ → List ℕ → List ℕ → List ℕ → Option ((Option A × Option A) × (Option A × Option A))
-  four a b c d = option_zip (option_zip (named_part a) (named_part b)) (option_zip (named_part c) (named_part d))
+  four first second third fourth = option_zip (option_zip (named_part first) (named_part second)) (option_zip (named_part third) (named_part fourth))
 
   -- an object of four sides
   unfoldable pub sides_at : Option (Sides (Option A))

@@ -240,27 +240,31 @@ pub fn vertical_line<'v, T: Told>(
 fn four<'v, T: Told>(
     alloc: Global,
     spot: &Spot<'v>,
-    a: &'static str,
-    b: &'static str,
-    c: &'static str,
-    d: &'static str,
+    first: &'static str,
+    second: &'static str,
+    third: &'static str,
+    fourth: &'static str,
 ) -> Result<(Two<T>, Two<T>), Fault<'v>>
-    ensures { IsReading (four T.Told.told_at (found spot.now) a.now b.now c.now d.now) result }
+    ensures { IsReading (four T.Told.told_at (found spot.now)
+        first.now second.now third.now fourth.now) result }
 {
-    Ok((two(alloc, spot, a, b)?, two(alloc, spot, c, d)?))
+    Ok((
+        two(alloc, spot, first, second)?,
+        two(alloc, spot, third, fourth)?,
+    ))
 }
 
 /// The parts of these two names.
 fn two<'v, T: Told>(
     alloc: Global,
     spot: &Spot<'v>,
-    a: &'static str,
-    b: &'static str,
+    first: &'static str,
+    second: &'static str,
 ) -> Result<Two<T>, Fault<'v>>
-    ensures { IsReading (option_zip (named_part T.Told.told_at (found spot.now) a.now)
-        (named_part T.Told.told_at (found spot.now) b.now)) result }
+    ensures { IsReading (option_zip (named_part T.Told.told_at (found spot.now) first.now)
+        (named_part T.Told.told_at (found spot.now) second.now)) result }
 {
-    Ok((part(alloc, spot, a)?, part(alloc, spot, b)?))
+    Ok((part(alloc, spot, first)?, part(alloc, spot, second)?))
 }
 
 /// The part of this name, none where it is missing.
