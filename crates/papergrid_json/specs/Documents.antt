@@ -63,14 +63,14 @@ own_sizes_at here =
     else option_map Some (option_zip (list_at number_at (member_at (codes "widths") here)) (list_at number_at (member_at (codes "heights") here)))
 
 module _ (document : Data) where
-  -- this of a JSON value
+  -- this of a JSON value; nothing where it is no object, or where a part of it tells nothing
   unfoldable pub draft_in : Option Told
   draft_in = when (is_some (json.as_object document))
       (of_both (λ first second. record { columns = first.0; settings = first.1; sizes = second.0; colors = second.1 })
       (option_zip (optional_number_at (json.get (codes "columns") document)) (optional_list_at accepted_at (json.get (codes "settings") document)))
       (option_zip (own_sizes_at (json.get (codes "sizes") document)) (optional_list_at colored_at (json.get (codes "colors") document))))
 
-  -- the texts of each row
+  -- the texts of each of its rows
   unfoldable pub row_texts_in : Option (List (List (List ℕ)))
   row_texts_in = list_at (list_at text_at) (json.get (codes "records") document)
 
@@ -88,11 +88,11 @@ abbrev pub are_enough : ℕ → ℕ → Option (List ℕ × List ℕ) → Bool
 are_enough columns rows None = true
 are_enough columns rows (Some sizes) = nat_le columns (length sizes.0) && nat_le rows (length sizes.1)
 
--- the first ones, one for each
+-- the first widths and heights, one for each column and for each row
 abbrev pub fitted : ℕ → ℕ → List ℕ × List ℕ → List ℕ × List ℕ
 fitted columns rows sizes = (take columns sizes.0, take rows sizes.1)
 
--- what a document tells
+-- what a JSON value tells as a document, with the texts of its rows; nothing where its own sizes are too few
 abbrev pub told_in : Data → Option (Told × List (List (List ℕ)))
 told_in document = option_and_then
     (λ told. when (are_enough (columns_of told.0 told.1) (length told.1) told.0.sizes) (Some told))
@@ -133,7 +133,7 @@ pub record IsDocument (told : Told × List (List (List ℕ))) (document : Docume
 abbrev pub document_in : List ℕ → Option (Told × List (List (List ℕ)))
 document_in text = option_and_then told_in (read text)
 
--- the setting that it tells, if it may be applied
+-- the setting that a text tells as JSON, if it may be applied
 abbrev pub setting_in : List ℕ → Option Setting
 setting_in text = option_and_then (λ value. accepted_at (Some value)) (read text)
 

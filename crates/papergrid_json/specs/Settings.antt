@@ -54,7 +54,7 @@ module _ (name : List ℕ) where
         else if bytes_eq name (codes "SetRowSpan") then of_both SetRowSpan (position_at first) (number_at second)
         else None
 
-    -- one by an entity and a value, or the same
+    -- one by an entity and a value, or else one by a position
     unfoldable pub entity_setting : Option Setting
     entity_setting =
         if bytes_eq name (codes "SetPadding") then of_both (λ entity told. SetPadding entity (filled_sides (spaces 0) told)) (entity_at first) (sides_at indent_at second)
@@ -68,7 +68,7 @@ module _ (name : List ℕ) where
         else if bytes_eq name (codes "SetJustificationColor") then of_both SetJustificationColor (entity_at first) (optional_color_at second)
         else cell_setting
 
-    -- one by the number of a line and a value, or the same
+    -- one by the number of a line and a value, or else one by an entity or a position
     unfoldable pub line_setting : Option Setting
     line_setting =
         if bytes_eq name (codes "InsertHorizontalLine") then of_both InsertHorizontalLine (number_at first) (horizontal_parts_at character_at second)
@@ -86,7 +86,7 @@ module _ (name : List ℕ) where
       else if bytes_eq name (codes "SetVerticalCharColor") then of_both (λ at. SetVerticalCharColor at.0 at.1) at (color_at value)
       else None
 
--- the setting of a word, and of as many values behind it
+-- the setting of a name, and of so many values behind it
 abbrev pub setting_by_word : Option Data → List ℕ × ℕ → Option Setting
 setting_by_word here word =
     if word.1 == 0 then bare_setting word.0

@@ -23,7 +23,7 @@ flag_at here = option_and_then as_bool here
 abbrev pub text_at : Option Data → Option (List ℕ)
 text_at here = option_and_then as_str here
 
--- the one of these
+-- the only one of these; none where there are none, or several
 abbrev pub only : List ℕ → Option ℕ
 only [] = None
 only (c ∷ []) = Some c

@@ -85,7 +85,7 @@ offset_at here = option_and_then (offset_by_word here) (word_at here)
 unfoldable pub color_at : Option Data → Option (List ℕ × List ℕ)
 color_at here = when (is_list_of 2 here) (option_zip (text_at (item_at 0 here)) (text_at (item_at 1 here)))
 
--- one, or none where nothing stands
+-- such a colour, or none where nothing stands
 unfoldable pub optional_color_at : Option Data → Option (Option (List ℕ × List ℕ))
 optional_color_at here = if is_missing here then Some None else option_map Some (color_at here)
 
@@ -165,7 +165,7 @@ module _ {A : Type 0} (told : Option Data → Option A) (here : Option Data) whe
       (four (codes "bottom") (codes "bottom_left") (codes "bottom_right") (codes "bottom_intersection")))
       (option_zip (four (codes "left") (codes "left_intersection") (codes "right") (codes "right_intersection")) within_at)
 
-  -- an object of these
+  -- an object of such parts
   unfoldable pub frame_at : Option (Borders A)
   frame_at = when (are_named_at (
       codes "top" ∷ codes "top_left" ∷ codes "top_right" ∷ codes "top_intersection"

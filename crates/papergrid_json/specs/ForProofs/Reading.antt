@@ -35,7 +35,7 @@ IsReadingAs Is told (Err e) = told ≡ None
 abbrev pub AreItems : {A : Type 0} → List A → Vec A Global → Type 0
 AreItems told items = items.items ≡ told
 
--- the same, where nothing may be read since nothing is told
+-- what is read is what is told, or nothing where nothing is; nothing is told where another fault than of memory is found
 abbrev pub IsReadingOrNone : {A : Type 0} → Option A → Result (Option A) Fault → Type 0
 IsReadingOrNone told (Ok value) = told ≡ value
 IsReadingOrNone told (Err fault.Memory) = ⊤
