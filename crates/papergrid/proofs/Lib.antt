@@ -5,4 +5,4 @@ mod FirstLines
 mod GridLemmas
 mod HeldLemmas
 mod PrintLemmas
-mod RunLemmas
+pub mod RunLemmas

@@ -29,6 +29,23 @@ use Rattle.papergrid_draw.proofs.SinkLemmas.{undrawn-beginning, undrawn-steady, 
 abbrev Any : RunEnd → Type 0
 Any end = ⊤
 
+-- a picture broke off, or was not begun
+pub picture-broken : {W E : Type 0} (contents : W → Option (List ℕ)) (has_failed has_stalled : W → Bool) (IsSo : Drawing → Type 0) (IsWhy : DrawError → Type 0) (IsOutput : E → List ℕ → Type 0)
+    (end : E) → ((d : Drawing) → IsSo d → IsOutput end (lined d)) → (old new : W) (e : DrawError) (fault : RunFault) → fault ≢ run_faults.Read → (fault ≡ run_faults.Write) ↔ (e ≡ draw_errors.Write) →
+    IsUndrawn contents has_failed has_stalled IsSo IsWhy lined old new e → IsBrokenOff contents has_failed has_stalled (λ _. ⊤) IsOutput old new fault
+picture-broken contents has_failed has_stalled IsSo IsWhy IsOutput end is old new e fault not_read follows so = record {
+  not_read = not_read;
+  beginning = elim (undrawn-beginning contents has_failed has_stalled IsSo IsWhy lined old new e so) [
+    | inl same ↦ inl same
+    | inr begun ↦ inr (end, tt, (lined begun.0, is begun.0 begun.1, begun.2))
+  ];
+  write = λ at. undrawn-write contents has_failed has_stalled IsSo IsWhy lined old new e so (follows.0 at);
+  steady = elim (undrawn-steady contents has_failed has_stalled IsSo IsWhy lined old new e so) [
+    | inl at ↦ inl (follows.1 at)
+    | inr steady ↦ inr steady
+  ];
+}
+
 module _ {W : Type 0} (contents : W → Option (List ℕ)) (has_failed has_stalled : W → Bool) where
   module _ (sizing : Sizing) (table : Table) (config : SpannedConfig) (told : IsConfiguredBy table.settings config) where
     abbrev IsSo : Drawing → Type 0
@@ -48,18 +65,8 @@ module _ {W : Type 0} (contents : W → Option (List ℕ)) (has_failed has_stall
     -- it broke off
     pub run-broken : (old new : W) (e : DrawError) (fault : RunFault) → fault ≢ run_faults.Read → (fault ≡ run_faults.Write) ↔ (e ≡ draw_errors.Write) → IsSoUndrawn old new e →
         IsBrokenOff contents has_failed has_stalled Any (IsTablePicture sizing table) old new fault
-    run-broken old new e fault not_read follows so = record {
-      not_read = not_read;
-      beginning = elim (undrawn-beginning contents has_failed has_stalled IsSo IsWhy lined old new e so) [
-        | inl same ↦ inl same
-        | inr begun ↦ inr (Done, tt, (lined begun.0, (begun.0, (config, told, begun.1), refl), begun.2))
-      ];
-      write = λ is. undrawn-write contents has_failed has_stalled IsSo IsWhy lined old new e so (follows.0 is);
-      steady = elim (undrawn-steady contents has_failed has_stalled IsSo IsWhy lined old new e so) [
-        | inl is ↦ inl (follows.1 is)
-        | inr steady ↦ inr steady
-      ];
-    }
+    run-broken old new e fault not_read follows so =
+        picture-broken contents has_failed has_stalled IsSo IsWhy (IsTablePicture sizing table) Done (λ d is. (d, (config, told, is), refl)) old new e fault not_read follows so
 
     -- it was refused, and the line that says so was written
     pub run-refused : (old between new : W) (e : DrawError) (text : List ℕ) (result : Result RunEnd RunFault) → IsRefusal e → IsSoUndrawn old between e → text ≡ refusal_line e →

@@ -10,6 +10,9 @@ use Rattle.papergrid_draw.specs.Separated.{part_separates}
 use Rattle.papergrid_draw.specs.Crossings.{AreOfFrame}
 use Rattle.papergrid_draw.specs.declared.crossings.Junctions.{Junctions}
 use Rattle.papergrid_csv.specs.Requests.{fitting_characters}
+use Rattle.papergrid_csv.specs.Styles.{fitting_frame, style_frame}
+use Rattle.papergrid_csv.specs.declared.style.Style.{Style}
+use Rattle.papergrid_csv.specs.declared.style.Style.TheVariants.{Ascii, Blank, Dots, Extended, Markdown, Modern, Plain, Psql, Rounded, Rst, Sharp}
 
 -- each part separates
 nth-separates : (k : ℕ) (parts : List (Option ℕ)) → list_all part_separates parts ≡ true → part_separates (get_or parts k None) ≡ true
@@ -17,26 +20,20 @@ nth-separates k [] all = refl
 nth-separates zero (part ∷ parts) all = (and_parts (part_separates part) (list_all part_separates parts) all).0
 nth-separates (suc k) (part ∷ parts) all = nth-separates k parts (and_parts (part_separates part) (list_all part_separates parts) all).1
 
--- so do those of a frame with other lines between rows
-pub ruled-separates : (frame : Borders ℕ) (a b c d : ℕ) → list_all part_separates (frame_parts frame) ≡ true → list_all is_separator (a ∷ b ∷ c ∷ d ∷ []) ≡ true →
-    list_all part_separates (frame_parts (record frame { horizontal = Some a; left_intersection = Some b; intersection = Some c; right_intersection = Some d })) ≡ true
-ruled-separates frame a b c d all line =
-    let one = and_parts (is_separator a) (list_all is_separator (b ∷ c ∷ d ∷ [])) line in
-    let two = and_parts (is_separator b) (list_all is_separator (c ∷ d ∷ [])) one.1 in
-    let three = and_parts (is_separator c) (list_all is_separator (d ∷ [])) two.1 in
-    let four = and_parts (is_separator d) true three.1 in
-    let top = nth-separates 0 (frame_parts frame) all in
-    let top_left = nth-separates 1 (frame_parts frame) all in
-    let top_right = nth-separates 2 (frame_parts frame) all in
-    let top_intersection = nth-separates 3 (frame_parts frame) all in
-    let bottom = nth-separates 4 (frame_parts frame) all in
-    let bottom_left = nth-separates 5 (frame_parts frame) all in
-    let bottom_right = nth-separates 6 (frame_parts frame) all in
-    let bottom_intersection = nth-separates 7 (frame_parts frame) all in
-    let vertical = nth-separates 9 (frame_parts frame) all in
-    let left = nth-separates 11 (frame_parts frame) all in
-    let right = nth-separates 13 (frame_parts frame) all in
-    rw (top, top_left, top_right, top_intersection, bottom, bottom_left, bottom_right, bottom_intersection, one.0, vertical, three.0, left, two.0, right, four.0) refl
+-- so do those of the frame of a style
+pub fitting-separates : (style : Style) → list_all part_separates (frame_parts (fitting_frame style)) ≡ true
+unfolding fitting_frame style_frame
+fitting-separates Rounded = refl
+fitting-separates Ascii = refl
+fitting-separates Modern = refl
+fitting-separates Sharp = refl
+fitting-separates Extended = refl
+fitting-separates Psql = refl
+fitting-separates Markdown = refl
+fitting-separates Rst = refl
+fitting-separates Dots = refl
+fitting-separates Blank = refl
+fitting-separates Plain = refl
 
 set-part : (part : Option ℕ) (c : ℕ) → part ≡ Some c → part_separates part ≡ true → is_separator c ≡ true
 set-part part c is separates = subst (λ p. part_separates p ≡ true) is separates

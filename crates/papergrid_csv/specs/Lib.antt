@@ -7,5 +7,6 @@ pub mod Requests
 pub mod Rows
 pub mod Shown
 pub mod Spelling
+pub mod Styles
 pub mod Within
 pub mod ForProofs

@@ -4,10 +4,12 @@ ghost use Rattle.std.specs.Prelude.{◌≡◌, ◌⊎◌, ◌∷◌, ◌++◌, [
 ghost use Rattle.papergrid_values.specs.declared.alignment.AlignmentHorizontal.TheVariants.{Left};
 ghost use Rattle.papergrid_values.specs.declared.alignment.AlignmentVertical.TheVariants.{Top};
 ghost use Rattle.papergrid_values.specs.declared.entity.Entity.TheVariants.{Global};
+ghost use Rattle.papergrid_values.specs.Compact.{all_sides, spaces};
 ghost use Rattle.papergrid_config.specs.declared.setting.Setting.TheVariants.{SetAlignmentVertical, SetBorders, SetPadding};
 ghost use Rattle.papergrid_tracks.specs.declared.sizing.Sizing.TheVariants.{ByShares};
 ghost use Rattle.papergrid_csv.specs.Requests.{IsSeparating, head_line, settings_of, span_settings};
 ghost use Rattle.papergrid_csv.specs.Rows.{held_texts};
+ghost use Rattle.papergrid_csv.specs.Styles.{style_frame, style_head, style_padding};
 ghost use Rattle.papergrid_csv.specs.declared.reading.Format.TheVariants.{Csv};
 ghost use Rattle.papergrid_csv.specs.declared.request.Alignment.TheVariants.{Fixed};
 ghost use Rattle.papergrid_csv.specs.declared.style.Style.TheVariants.{Plain};
@@ -93,7 +95,10 @@ impl Request {
           raw = false;
           strict = false;
         } }
+        ensures lines { (result.frame ≡ style_frame style) × (result.head ≡ style_head style true) }
         ensures head { result.has_head ≡ true }
+        ensures padding { let side = spaces (style_padding style) in
+            result.padding ≡ record (all_sides (spaces 0)) { left = side; right = side } }
         ensures columns { result.columns.items ≡ [] }
         ensures spans { (result.spans.items ≡ []) × (result.hides ≡ false) }
         ensures junctions { result.junctions ≡ None }

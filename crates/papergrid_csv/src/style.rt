@@ -1,11 +1,14 @@
 //! The styles of a table: its lines and its padding.
 
-ghost use Rattle.std.specs.Prelude.{◌≡◌, ◌⊎◌, IsSome, None, Some, true};
+ghost use Rattle.std.specs.Prelude.{◌≡◌, ◌⊎◌, IsSome, MatchOption, None, Some, true};
 ghost use Rattle.std.specs.List.{list_all};
 ghost use Rattle.papergrid_values.specs.Borders.{frame_parts, frame_with};
 ghost use Rattle.papergrid_text.specs.Separators.{is_separator};
 ghost use Rattle.papergrid_draw.specs.Separated.{part_separates};
+ghost use Rattle.papergrid_draw.specs.Crossings.{AreOfFrame};
+ghost use Rattle.papergrid_draw.specs.declared.crossings.Junctions.{Junctions};
 ghost use Rattle.papergrid_csv.specs.Requests.{fitting_characters, head_parts};
+ghost use Rattle.papergrid_csv.specs.Styles.{fitting_frame, style_frame, style_head, style_padding};
 ghost use Rattle.papergrid_csv.specs.declared.style.Style.TheVariants.{Plain};
 
 use papergrid_draw::Junctions;
@@ -29,7 +32,9 @@ pub enum Style {
 
 impl Style {
     /// The lines round the table, between its rows and between its columns. All but `Plain` have one between columns.
+    #[tactic(auto, unfolding(crate::specs::Styles::style_frame))]
     pub fn frame(self) -> Borders<char>
+        ensures lines { result ≡ style_frame self }
         ensures separators { list_all part_separates (frame_parts result) ≡ true }
         ensures vertical { (self ≡ Plain) ⊎ (IsSome result.vertical) }
     {
@@ -61,8 +66,10 @@ impl Style {
     }
 
     /// The line below the first row, if it has one; where the first row is no head, if it keeps it.
+    #[tactic(auto, unfolding(crate::specs::Styles::style_head))]
     pub fn head(self, is_head: bool) -> Option<HorizontalLine<char>>
-        ensures { list_all part_separates (head_parts result) ≡ true }
+        ensures line { result ≡ style_head self is_head }
+        ensures separators { list_all part_separates (head_parts result) ≡ true }
     {
         match self {
             Style::Rounded | Style::Sharp if is_head => {
@@ -77,17 +84,29 @@ impl Style {
 
     /// The characters of its crossings, if it has all of them.
     pub fn junctions(self) -> Option<Junctions>
-        ensures { list_all is_separator (fitting_characters result) ≡ true }
+        ensures crossings { let frame = fitting_frame self in
+            MatchOption result ((junctions : Junctions) → AreOfFrame frame junctions → ⊥)
+            (AreOfFrame frame) }
+        ensures separators { list_all is_separator (fitting_characters result) ≡ true }
     {
-        let frame = match self {
+        Junctions::of_frame(&self.fitting_frame())
+    }
+
+    /// Its frame, with crossings that fit spans.
+    #[tactic(auto, unfolding(crate::specs::Styles::fitting_frame))]
+    fn fitting_frame(self) -> Borders<char>
+        ensures { result ≡ fitting_frame self }
+    {
+        match self {
             Style::Rounded | Style::Sharp => ruled(self.frame(), ('─', '├', '┼', '┤')),
             _ => self.frame(),
-        };
-        Junctions::of_frame(&frame)
+        }
     }
 
     /// How many spaces stand on both sides of a text.
-    pub fn padding(self) -> usize {
+    pub fn padding(self) -> usize
+        ensures { result ≡ style_padding self }
+    {
         match self {
             Style::Rst | Style::Blank | Style::Plain => 0,
             _ => 1,

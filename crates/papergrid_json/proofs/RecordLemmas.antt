@@ -16,10 +16,10 @@ use Rattle.serde_json.proofs.Views.{view-lookup, view-Object}
 use Rattle.papergrid_config.specs.Applied.{is_in_range}
 use Rattle.papergrid_config.specs.declared.setting.Setting.{Setting}
 use Rattle.papergrid_values.specs.declared.position.Position.{Position}
-use Rattle.papergrid_json.specs.Documents.{AreInRange, IsDocument, Told, accepted_at, are_enough, colored_at, columns_of, draft_in, items_at, fitted, longest_row, optional_list_at, optional_number_at, own_sizes_at, row_texts_in, own_sizes, told_in}
+use Rattle.papergrid_json.specs.Documents.{AreInRange, IsDocument, Told, accepted_at, are_enough, colored_at, columns_of, draft_in, items_at, fitted, longest_row, optional_list_at, own_sizes_at, row_texts_in, own_sizes, told_in}
 use Rattle.papergrid_json.specs.ForProofs.Reading.{IsDraft, IsFinished, IsOfDraft, IsTableRead, draft_columns}
 use Rattle.papergrid_json.specs.Settings.{setting_at}
-use Rattle.papergrid_json.specs.Spots.{each, when}
+use Rattle.papergrid_json.specs.Spots.{each, number_at, optional, when}
 use Rattle.papergrid_json.specs.declared.document.Document.{Document}
 use Rattle.papergrid_json.specs.declared.document.Draft.{Draft}
 use Rattle.papergrid_json.specs.declared.error.DocumentError.{DocumentError}
@@ -99,8 +99,8 @@ read_in_range value (Err e) h = tt
 -- ---- a document is told by its parts
 
 pub draft_told : (document : Data) (columns : Option ℕ) (settings : List Setting) (sizes : Option (List ℕ × List ℕ)) (colors : List (Position × (List ℕ × List ℕ)))
-    → is_some (json.as_object document) ≡ true → optional_number_at (json.get (codes "columns") document) ≡ Some columns
-    → optional_list_at accepted_at (json.get (codes "settings") document) ≡ Some settings → own_sizes_at (json.get (codes "sizes") document) ≡ Some sizes
+    → is_some (json.as_object document) ≡ true → optional number_at (json.get (codes "columns") document) ≡ Some columns
+    → optional_list_at accepted_at (json.get (codes "settings") document) ≡ Some settings → optional own_sizes_at (json.get (codes "sizes") document) ≡ Some sizes
     → optional_list_at colored_at (json.get (codes "colors") document) ≡ Some colors → draft_in document ≡ Some (record { columns = columns; settings = settings; sizes = sizes; colors = colors })
 unfolding draft_in
 draft_told document columns settings sizes colors an_object a b c d = rw (an_object, a, b, c, d) refl

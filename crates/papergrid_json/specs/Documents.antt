@@ -12,7 +12,7 @@ use Rattle.papergrid_values.specs.MapKeys.{position_cmp}
 use Rattle.papergrid_config.specs.Applied.{is_in_range}
 use Rattle.papergrid_config.specs.declared.setting.Setting.{Setting}
 use Rattle.papergrid_json.specs.Settings.{setting_at}
-use Rattle.papergrid_json.specs.Spots.{each, is_list_of, is_missing, item_at, list_at, member_at, number_at, text_at, when}
+use Rattle.papergrid_json.specs.Spots.{each, is_list_of, is_missing, item_at, list_at, member_at, number_at, optional, text_at, when}
 use Rattle.papergrid_json.specs.Values.{of_both}
 use Rattle.papergrid_json.specs.declared.document.Document.{Document}
 use Rattle.papergrid_json.specs.declared.document.OwnSizes.{OwnSizes}
@@ -48,27 +48,21 @@ pub record Told : Type 0 where
   pub sizes : Option (List ℕ × List ℕ)
   pub colors : List (Position × (List ℕ × List ℕ))
 
--- a number, or none where nothing stands
-unfoldable pub optional_number_at : Option Data → Option (Option ℕ)
-optional_number_at here = if is_missing here then Some None else option_map Some (number_at here)
-
 -- a list, each item as it is read; no items where nothing stands
 unfoldable pub optional_list_at : {A : Type 0} → (Option Data → Option A) → Option Data → Option (List A)
 optional_list_at read here = option_and_then (each read) (items_at here)
 
--- widths and heights of one's own, or none where nothing stands
-unfoldable pub own_sizes_at : Option Data → Option (Option (List ℕ × List ℕ))
-own_sizes_at here =
-    if is_missing here then Some None
-    else option_map Some (option_zip (list_at number_at (member_at (codes "widths") here)) (list_at number_at (member_at (codes "heights") here)))
+-- widths and heights of one's own
+abbrev pub own_sizes_at : Option Data → Option (List ℕ × List ℕ)
+own_sizes_at here = option_zip (list_at number_at (member_at (codes "widths") here)) (list_at number_at (member_at (codes "heights") here))
 
 module _ (document : Data) where
   -- this of a JSON value; nothing where it is no object, or where a part of it tells nothing
   unfoldable pub draft_in : Option Told
   draft_in = when (is_some (json.as_object document))
       (of_both (λ first second. record { columns = first.0; settings = first.1; sizes = second.0; colors = second.1 })
-      (option_zip (optional_number_at (json.get (codes "columns") document)) (optional_list_at accepted_at (json.get (codes "settings") document)))
-      (option_zip (own_sizes_at (json.get (codes "sizes") document)) (optional_list_at colored_at (json.get (codes "colors") document))))
+      (option_zip (optional number_at (json.get (codes "columns") document)) (optional_list_at accepted_at (json.get (codes "settings") document)))
+      (option_zip (optional own_sizes_at (json.get (codes "sizes") document)) (optional_list_at colored_at (json.get (codes "colors") document))))
 
   -- the texts of each of its rows
   unfoldable pub row_texts_in : Option (List (List (List ℕ)))

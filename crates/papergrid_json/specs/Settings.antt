@@ -8,8 +8,8 @@ use Rattle.papergrid_values.specs.declared.offset.Offset.{Offset}
 use Rattle.papergrid_config.specs.declared.setting.Setting.{Setting}
 use Rattle.papergrid_config.specs.declared.setting.Setting.TheVariants.{SetMargin, SetMarginColor, SetMarginOffset, RemoveBorders, RemoveBordersColors, RemoveColorLineHorizontal, RemoveColorLineVertical, RemoveHorizontalChars, RemoveVerticalChars, SetBorders, SetBorderDefault, SetBordersColor, SetBorderColorDefault, SetBordersMissing, InsertHorizontalLine, RemoveHorizontalLine, InsertVerticalLine, RemoveVerticalLine, SetHorizontalChar, RemoveOverriddenHorizontal, SetVerticalChar, RemoveOverriddenVertical, SetHorizontalCharColor, SetVerticalCharColor, SetPadding, SetPaddingColor, SetTrimHorizontal, SetTrimVertical, SetLineAlignment, SetAlignmentHorizontal, SetAlignmentVertical, SetJustification, SetJustificationColor, SetBorder, SetBorderColor, RemoveBorder, RemoveBorderColor, SetColumnSpan, SetRowSpan, RemoveColumnSpans, RemoveRowSpans}
 use Rattle.papergrid_values.specs.Compact.{spaces}
-use Rattle.papergrid_json.specs.Spots.{character_at, flag_at, item_at, number_at, two_numbers_at, word_at}
-use Rattle.papergrid_json.specs.Values.{border_at, color_at, entity_at, filled_sides, frame_at, horizontal_at, horizontal_parts_at, indent_at, of_both, offset_at, optional_color_at, position_at, sides_at, vertical_at, vertical_parts_at}
+use Rattle.papergrid_json.specs.Spots.{character_at, flag_at, item_at, number_at, optional, two_numbers_at, word_at}
+use Rattle.papergrid_json.specs.Values.{border_at, color_at, entity_at, filled_sides, frame_at, horizontal_at, horizontal_parts_at, indent_at, of_both, offset_at, position_at, sides_at, vertical_at, vertical_parts_at}
 
 -- ---- settings
 
@@ -65,7 +65,7 @@ module _ (name : List ℕ) where
         else if bytes_eq name (codes "SetAlignmentHorizontal") then of_both SetAlignmentHorizontal (entity_at first) (horizontal_at second)
         else if bytes_eq name (codes "SetAlignmentVertical") then of_both SetAlignmentVertical (entity_at first) (vertical_at second)
         else if bytes_eq name (codes "SetJustification") then of_both SetJustification (entity_at first) (character_at second)
-        else if bytes_eq name (codes "SetJustificationColor") then of_both SetJustificationColor (entity_at first) (optional_color_at second)
+        else if bytes_eq name (codes "SetJustificationColor") then of_both SetJustificationColor (entity_at first) (optional color_at second)
         else cell_setting
 
     -- one by the number of a line and a value, or else one by an entity or a position

@@ -1,8 +1,9 @@
 -- Plain values and lists at a place of a JSON value, where something may stand or nothing.
-use Rattle.std.specs.Prelude.{ℕ, suc, ◌-◌, Bool, true, false, if◌then◌else◌, List, [], ◌∷◌, Option, Some, None, option_and_then, option_map, unwrap_or, is_some, chars, ◌==◌}
+use Rattle.std.specs.Prelude.{ℕ, suc, ◌-◌, Bool, true, false, if◌then◌else◌, List, [], ◌∷◌, Option, Some, None, option_and_then, option_map, unwrap_or, is_some, ◌==◌}
 use Rattle.std.specs.Option.{option_zip}
 use Rattle.serde_json.specs.Data.{Data, Items, no_items, item}
 use Rattle.serde_json.specs.Find.{as_array, as_bool, as_null, as_number, as_str, as_u64, at, get}
+use Rattle.papergrid_text.specs.Text.{character_of}
 
 -- nothing, or `null`
 abbrev pub is_missing : Option Data → Bool
@@ -23,19 +24,9 @@ flag_at here = option_and_then as_bool here
 abbrev pub text_at : Option Data → Option (List ℕ)
 text_at here = option_and_then as_str here
 
--- the only one of these; none where there are none, or several
-abbrev pub only : List ℕ → Option ℕ
-only [] = None
-only (c ∷ []) = Some c
-only (c ∷ next ∷ cs) = None
-
 -- the character of a text that is one
-unfoldable pub character_in : List ℕ → Option ℕ
-character_in text = only (chars text)
-
--- the same of a text that stands there
 abbrev pub character_at : Option Data → Option ℕ
-character_at here = option_and_then character_in (text_at here)
+character_at here = option_and_then character_of (text_at here)
 
 -- ---- lists
 
@@ -63,6 +54,10 @@ is_list_of n here = unwrap_or (option_map (λ items. items == n) (count_at here)
 -- this, if so
 abbrev pub when : {A : Type 0} → Bool → Option A → Option A
 when b told = if b then told else None
+
+-- what is read of what stands there, or none where nothing does
+unfoldable pub optional : {A : Type 0} → (Option Data → Option A) → Option Data → Option (Option A)
+optional read here = if is_missing here then Some None else option_map Some (read here)
 
 -- two numbers
 abbrev pub two_numbers_at : Option Data → Option (ℕ × ℕ)

@@ -18,7 +18,7 @@ use Rattle.papergrid_values.specs.declared.offset.Offset.TheVariants.{Start, End
 use Rattle.papergrid_values.specs.declared.position.Position.{Position}
 use Rattle.papergrid_values.specs.declared.sides.Sides.{Sides}
 use Rattle.papergrid_values.specs.declared.vertical_line.VerticalLine.{VerticalLine}
-use Rattle.papergrid_json.specs.Spots.{character_at, is_list_of, is_missing, item_at, member_at, number_at, two_numbers_at, text_at, when, word_at}
+use Rattle.papergrid_json.specs.Spots.{character_at, is_list_of, item_at, member_at, number_at, optional, two_numbers_at, text_at, when, word_at}
 
 -- what two places tell, together
 abbrev pub of_both : {A B C : Type 0} → (A → B → C) → Option A → Option B → Option C
@@ -85,10 +85,6 @@ offset_at here = option_and_then (offset_by_word here) (word_at here)
 unfoldable pub color_at : Option Data → Option (List ℕ × List ℕ)
 color_at here = when (is_list_of 2 here) (option_zip (text_at (item_at 0 here)) (text_at (item_at 1 here)))
 
--- such a colour, or none where nothing stands
-unfoldable pub optional_color_at : Option Data → Option (Option (List ℕ × List ℕ))
-optional_color_at here = if is_missing here then Some None else option_map Some (color_at here)
-
 -- ---- values by parts
 
 -- whether a name is one of these
@@ -107,8 +103,8 @@ are_named_at names here = unwrap_or (option_map (are_named names) (option_and_th
 
 module _ {A : Type 0} (told : Option Data → Option A) (here : Option Data) where
   -- the part of this name, or none where it is missing
-  unfoldable pub named_part : List ℕ → Option (Option A)
-  named_part name = if is_missing (member_at name here) then Some None else option_map Some (told (member_at name here))
+  abbrev pub named_part : List ℕ → Option (Option A)
+  named_part name = optional told (member_at name here)
 
   -- the parts of four names
   unfoldable pub four : List ℕ → List ℕ → List ℕ → List ℕ → Option ((Option A × Option A) × (Option A × Option A))

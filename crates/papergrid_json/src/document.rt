@@ -3,17 +3,17 @@
 ghost use Rattle.std.specs.Prelude.{◌≡◌, ◌≢◌, IfOk, Some, true, List, codes, option_and_then, length, map, option_map, string_bytes};
 ghost use Rattle.serde_json.specs.Find.{as_array, get};
 ghost use Rattle.serde_json.specs.View.{items_view, view};
-ghost use Rattle.papergrid_json.specs.Spots.{count, each, list_at, text_at};
+ghost use Rattle.papergrid_json.specs.Spots.{count, each, list_at, optional, text_at};
 ghost use Rattle.papergrid_config.specs.Applied.{is_in_range};
 ghost use Rattle.papergrid_json.specs.declared.error.Fault.TheVariants.{Memory};
 ghost use Rattle.papergrid_json.specs.ForProofs.Reading.{AreItems, AreOwnSizes, IsDraft, IsFinished, IsJsonRead, IsReading, IsReadingAs, IsTableRead, found};
-ghost use Rattle.papergrid_json.specs.Documents.{AreColors, AreInRange, IsDocumentRead, IsSettingRead, accepted_at, are_enough, colored_at, draft_in, longest_row, items_at, optional_list_at, optional_number_at, own_sizes_at, row_texts_in, own_sizes, row_texts};
+ghost use Rattle.papergrid_json.specs.Documents.{AreColors, AreInRange, IsDocumentRead, IsSettingRead, accepted_at, are_enough, colored_at, draft_in, longest_row, items_at, optional_list_at, own_sizes_at, row_texts_in, own_sizes, row_texts};
 
 use crate::error::{DocumentError, Fault, told};
 use crate::place::Place;
 use crate::setting::setting;
 use crate::spot::Spot;
-use crate::values::color_of;
+use crate::values::{color_of, optional};
 use papergrid_config::Setting;
 use papergrid_values::{ANSIBuf, Position};
 use serde_json::Value;
@@ -126,22 +126,11 @@ fn drafted<'v>(alloc: Global, document: &'v Value) -> Result<Draft, Fault<'v>>
         return Err(Fault::Unexpected(Place::of("the document"), "an object with records"));
     }
     Ok(Draft {
-        columns: optional_number(&Spot::member(document, "columns"))?,
+        columns: optional(alloc, &Spot::member(document, "columns"))?,
         settings: settings(alloc, &Spot::member(document, "settings"))?,
         sizes: sizes(alloc, &Spot::member(document, "sizes"))?,
         colors: colors(alloc, &Spot::member(document, "colors"))?,
     })
-}
-
-/// The number that stands at a place, if something does.
-#[tactic(auto, unfolding(crate::specs::Documents::optional_number_at))]
-fn optional_number<'v>(spot: &Spot<'v>) -> Result<Option<usize>, Fault<'v>>
-    ensures { IsReading (optional_number_at (found spot.now)) result }
-{
-    if spot.is_empty() {
-        return Ok(None);
-    }
-    Ok(Some(spot.number()?))
 }
 
 /// The settings that stand at a place, none where nothing does.
@@ -184,10 +173,10 @@ fn count<'v>(spot: &Spot<'v>, wanted: &'static str) -> Result<usize, Fault<'v>>
 }
 
 /// The sizes that stand at a place, if something does.
-#[tactic(auto, unfolding(crate::specs::Documents::own_sizes_at))]
+#[tactic(auto, unfolding(crate::specs::Spots::optional))]
 fn sizes<'v>(alloc: Global, spot: &Spot<'v>) -> Result<Option<OwnSizes>, Fault<'v>>
     ensures { IsReadingAs (λ told sizes. option_map own_sizes sizes ≡ told)
-        (own_sizes_at (found spot.now)) result }
+        (optional own_sizes_at (found spot.now)) result }
 {
     if spot.is_empty() {
         return Ok(None);

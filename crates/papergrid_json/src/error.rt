@@ -26,6 +26,10 @@ pub enum DocumentError {
 }
 
 impl From<AllocError> for DocumentError {
+    ghost use Rattle.papergrid_json.specs.declared.error.DocumentError.TheVariants as document_errors;
+
+    ghost from_gives = { λ _ error. error ≡ document_errors.Memory };
+
     fn from(_error: AllocError) -> DocumentError {
         DocumentError::Memory
     }

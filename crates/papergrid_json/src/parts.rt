@@ -8,7 +8,7 @@ ghost use Rattle.papergrid_json.specs.Values.{are_named, are_named_at, border_at
 
 use crate::error::Fault;
 use crate::spot::Spot;
-use crate::values::Told;
+use crate::values::{Told, optional};
 use papergrid_values::{Border, Borders, HorizontalLine, Sides, VerticalLine};
 use serde_json::{Map, Value};
 use std::alloc::Global;
@@ -268,7 +268,6 @@ fn two<'v, T: Told>(
 }
 
 /// The part of this name, none where it is missing.
-#[tactic(auto, unfolding(crate::specs::Values::named_part))]
 fn part<'v, T: Told>(
     alloc: Global,
     spot: &Spot<'v>,
@@ -276,11 +275,7 @@ fn part<'v, T: Told>(
 ) -> Result<Option<T>, Fault<'v>>
     ensures { IsReading (named_part T.Told.told_at (found spot.now) name.now) result }
 {
-    let field = spot.field(name);
-    if field.is_empty() {
-        return Ok(None);
-    }
-    Ok(Some(<T as Told>::told(alloc, &field)?))
+    optional(alloc, &spot.field(name))
 }
 
 /// That an object stands at a place whose members have these names, but for those that are `null`.

@@ -12,7 +12,7 @@ use crate::error::Fault;
 use crate::forms::form_named;
 use crate::parts::{border, filled, frame, horizontal_line, sides, vertical_line};
 use crate::spot::Spot;
-use crate::values::{Told, color, entity, horizontal, position, vertical};
+use crate::values::{Told, entity, horizontal, optional, position, vertical};
 use papergrid_config::Setting;
 use papergrid_values::{ANSIBuf, Indent, Offset, Position};
 use std::alloc::Global;
@@ -154,7 +154,7 @@ fn of_entity<'v>(
         }
         "SetJustification" => Setting::SetJustification(entity(first)?, second.character()?),
         "SetJustificationColor" => {
-            Setting::SetJustificationColor(entity(first)?, color(alloc, second)?)
+            Setting::SetJustificationColor(entity(first)?, optional(alloc, second)?)
         }
         _ => return of_cell(alloc, name, first, second),
     }))

@@ -4,11 +4,12 @@ ghost use Rattle.std.specs.Prelude.{◌≡◌, option_and_then, option_map};
 ghost use Rattle.serde_json.specs.Find.{as_array, as_object, as_str, at, get};
 ghost use Rattle.serde_json.specs.View.{items_view, members_view, view};
 ghost use Rattle.papergrid_json.specs.ForProofs.Reading.{AreItems, IsReading, IsReadingAs, IsTest, found};
-ghost use Rattle.papergrid_json.specs.Spots.{character_at, character_in, count_at, flag_at, is_list_of, is_missing, list_at, number_at, two_numbers_at, word_at};
+ghost use Rattle.papergrid_json.specs.Spots.{character_at, count_at, flag_at, is_list_of, is_missing, list_at, number_at, two_numbers_at, word_at};
 ghost use Rattle.papergrid_json.specs.declared.error.Fault.TheVariants.{Unexpected};
 
 use crate::error::Fault;
 use crate::place::Place;
+use papergrid_text::string::single_character;
 use serde_json::{Map, Value};
 use std::alloc::Global;
 
@@ -150,7 +151,7 @@ impl<'v> Spot<'v> {
     pub fn character(&self) -> Result<char, Fault<'v>>
         ensures { IsReading (character_at (found self.now)) result }
     {
-        match self.text().and_then(only_character) {
+        match self.text().and_then(single_character) {
             Some(character) => Ok(character),
             None => Err(self.unexpected("a text of one character")),
         }
@@ -187,18 +188,5 @@ impl<'v> Spot<'v> {
             numbers.push(self.at(index).number()?)?;
         }
         Ok(numbers)
-    }
-}
-
-/// The character of a text that is one.
-#[tactic(auto, unfolding(crate::specs::Spots::character_in))]
-fn only_character(text: &str) -> Option<char>
-    ensures { result ≡ character_in text.now }
-{
-    let mut characters = text.chars();
-    let first = characters.next()?;
-    match characters.next() {
-        None => Some(first),
-        Some(_) => None,
     }
 }

@@ -4,8 +4,8 @@ ghost use Rattle.std.specs.Option.{option_zip};
 ghost use Rattle.std.specs.Prelude.{Option, option_map};
 ghost use Rattle.serde_json.specs.Data.{Data};
 ghost use Rattle.papergrid_json.specs.ForProofs.Reading.{IsReading, found};
-ghost use Rattle.papergrid_json.specs.Spots.{character_at};
-ghost use Rattle.papergrid_json.specs.Values.{color_at, entity_at, horizontal_at, indent_at, offset_at, optional_color_at, position_at, vertical_at};
+ghost use Rattle.papergrid_json.specs.Spots.{character_at, number_at, optional};
+ghost use Rattle.papergrid_json.specs.Values.{color_at, entity_at, horizontal_at, indent_at, offset_at, position_at, vertical_at};
 
 use crate::error::Fault;
 use crate::spot::Spot;
@@ -22,6 +22,14 @@ pub trait Told: Drop {
     /// The value that stands at a place.
     fn told<'v>(alloc: Global, spot: &Spot<'v>) -> Result<Self, Fault<'v>>
         ensures { IsReading (told_at (found spot.now)) result };
+}
+
+impl Told for usize {
+    ghost told_at = { number_at };
+
+    fn told<'v>(_alloc: Global, spot: &Spot<'v>) -> Result<usize, Fault<'v>> {
+        spot.number()
+    }
 }
 
 impl Told for char {
@@ -83,15 +91,15 @@ pub fn color_of<'v>(
     }
 }
 
-/// The colour that stands at a place, none where nothing does.
-#[tactic(auto, unfolding(crate::specs::Values::optional_color_at))]
-pub fn color<'v>(alloc: Global, spot: &Spot<'v>) -> Result<Option<ANSIBuf>, Fault<'v>>
-    ensures { IsReading (optional_color_at (found spot.now)) result }
+/// The value that stands at a place, none where nothing does.
+#[tactic(auto, unfolding(crate::specs::Spots::optional))]
+pub fn optional<'v, T: Told>(alloc: Global, spot: &Spot<'v>) -> Result<Option<T>, Fault<'v>>
+    ensures { IsReading (optional T.Told.told_at (found spot.now)) result }
 {
     if spot.is_empty() {
         return Ok(None);
     }
-    Ok(Some(ANSIBuf::told(alloc, spot)?))
+    Ok(Some(<T as Told>::told(alloc, spot)?))
 }
 
 /// The entity that stands at a place.

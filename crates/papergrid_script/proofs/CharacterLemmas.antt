@@ -1,12 +1,12 @@
 -- One character and its bytes, and the text behind a byte of ASCII.
-use Rattle.std.proofs.Common.{◌≡◌, ◌<◌, ◌+◌, ◌++◌, ◌∷◌, [], ℕ, List, Bool, true, false, ◌&&◌, Some, None, length, refl, sym, ap, ◌∙◌, subst, arith, append-nil, length-append}
+use Rattle.std.proofs.Common.{◌≡◌, ◌<◌, ◌+◌, ◌++◌, ◌∷◌, [], ℕ, List, Bool, true, false, ◌&&◌, Some, length, refl, sym, ap, ◌∙◌, subst, arith, append-nil, length-append}
 use Rattle.std.specs.Prelude.{IsUtf8}
 use Rattle.std.specs.Char.{encode_utf8}
 use Rattle.std.specs.Str.{all_scalars, chars, encode_utf8_all}
 use Rattle.std.proofs.Math.Seq.{drop-append-add, get_or-append_seam}
 use Rattle.std.proofs.lemmas.Option.{same_Some, none-some}
-use Rattle.std.proofs.lemmas.Str.{chars-nil, chars-encodes, encodes-chars, scalars-chars, chars_past_char, IsCharBoundary-after_ascii, IsUtf8-drop, IsUtf8-past_char}
-use Rattle.papergrid_script.specs.Grammar.{one_alone, character_of}
+use Rattle.std.proofs.lemmas.Str.{chars-encodes, encodes-chars, scalars-chars, IsCharBoundary-after_ascii, IsUtf8-drop}
+use Rattle.papergrid_text.specs.Text.{character_of, only}
 use Rattle.papergrid_script.specs.Spelling.{IsCharacter}
 
 pub text_behind : (front rest : List ℕ) (b : ℕ) → b < 128 → IsUtf8 (front ++ b ∷ rest) → IsUtf8 rest
@@ -16,7 +16,7 @@ text_behind front rest b low text =
     (IsUtf8-drop (front ++ b ∷ rest) (length front + 1) text
     (IsCharBoundary-after_ascii (front ++ b ∷ rest) (length front) text (omega (arith, length-append front (b ∷ rest))) (omega (arith, low, there))))
 
-alone : (cs : List ℕ) (c : ℕ) → one_alone cs ≡ Some c → cs ≡ c ∷ []
+alone : (cs : List ℕ) (c : ℕ) → only cs ≡ Some c → cs ≡ c ∷ []
 alone [] c h = absurd (none-some c h)
 alone (d ∷ []) c h = ap (λ x. x ∷ []) (same_Some _ _ h)
 alone (d ∷ next ∷ cs) c h = absurd (none-some c h)
@@ -39,15 +39,4 @@ unfolding character_of
 character_spelled bytes c h =
     let whole : bytes ≡ encode_utf8_all (c ∷ []) = h.spelled ∙ sym (append-nil (encode_utf8 c)) in
     let scalars : all_scalars (c ∷ []) ≡ true = rw h.scalar refl in
-    ap one_alone (ap chars whole ∙ chars-encodes (c ∷ []) scalars)
-
-pub one_character : (bytes rest : List ℕ) (c : ℕ) → IsUtf8 bytes → bytes ≡ encode_utf8 c ++ rest → length rest ≡ 0 → Some c ≡ character_of bytes
-unfolding character_of
-one_character bytes [] c text first none = ap one_alone (sym (chars_past_char bytes [] c text first ∙ ap (λ cs. c ∷ cs) chars-nil))
-one_character bytes (b ∷ rest) c text first none = absurd (omega (arith, none))
-
-pub more_characters : (bytes rest more : List ℕ) (c next : ℕ) → IsUtf8 bytes → bytes ≡ encode_utf8 c ++ rest → rest ≡ encode_utf8 next ++ more → None ≡ character_of bytes
-unfolding character_of
-more_characters bytes rest more c next text first second =
-    let behind = chars_past_char rest more next (IsUtf8-past_char bytes rest c text first) second in
-    ap one_alone (sym (chars_past_char bytes rest c text first ∙ ap (λ cs. c ∷ cs) behind))
+    ap only (ap chars whole ∙ chars-encodes (c ∷ []) scalars)

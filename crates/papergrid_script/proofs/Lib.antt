@@ -1,9 +1,11 @@
+pub mod ArgumentLemmas
 mod CharacterLemmas
 mod CutLemmas
 mod DraftLemmas
 mod EscapeLemmas
 mod EstimateLemmas
 pub mod GridLemmas
+mod LastByteLemmas
 mod LawLemmas
 mod LineLemmas
 mod ListedLemmas

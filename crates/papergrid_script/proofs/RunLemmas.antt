@@ -1,5 +1,6 @@
 -- What a run leaves, by what reading its input and writing its output leave.
-use Rattle.std.proofs.Common.{◌≡◌, ◌≢◌, ◌⊎◌, ◌∙◌, ℕ, Bool, false, true, List, Option, Result, Ok, Err, Vec, Global, inl, inr, refl}
+use Rattle.std.proofs.Common.{◌≡◌, ◌≢◌, ◌⊎◌, ◌∙◌, ℕ, Bool, false, true, List, Option, Result, Ok, Err, Vec, Global, ap, inl, inr, refl, subst, sym}
+use Rattle.std.specs.Result.{IsErrOf, IsOkAnd, MatchResult}
 use Rattle.papergrid_text.specs.Transfer.{HasEnded, IsSteady}
 use Rattle.papergrid_script.specs.Inputs.{IsWholeInput}
 use Rattle.papergrid_script.specs.Runs.{HasRun, IsRunFault, Runs}
@@ -49,33 +50,45 @@ module _ {R W : Type 0} (remaining : R → Option (List ℕ)) (read_failed : R �
     writer_moves = same.1;
   }
 
-  -- ---- a run that writes an output by how it ends
+-- ---- a run that writes an output by how it ends
 
-  module _ {E : Type 0} (IsOutput : E → List ℕ → Type 0) (MayBegin : List ℕ → Type 0) where
-    -- its input was not read
-    pub runs-unread : (fault : RunFault) → (fault ≡ Memory → read_failed reader_new ≡ read_failed reader_old) → (fault ≡ Read → read_failed reader_new ≡ true) → (fault ≡ Write → ⊥) →
-        Runs remaining read_failed contents has_failed has_stalled reader_old reader_new writer_old writer_old input_old input_old IsOutput MayBegin (Err fault)
-    runs-unread fault memory read never = record { written = tt; ran = tt; fault = fault-before fault memory read never; beginning = inl refl }
+module _ {R W E : Type 0} {remaining : R → Option (List ℕ)} {read_failed : R → Bool} {contents : W → Option (List ℕ)} {has_failed has_stalled : W → Bool}
+    {reader_old reader_new : R} (reader_works : read_failed reader_old ≡ false) {writer_old : W} (writer_works : has_failed writer_old ≡ false) {input_old : Vec ℕ Global}
+    {IsOutput : E → List ℕ → Type 0} {MayBegin : List ℕ → Type 0} where
+  -- its input was not read
+  pub runs-unread : (fault : RunFault) → (IsErrOf {T = Vec ℕ Global} (Err fault) Memory → read_failed reader_new ≡ read_failed reader_old) →
+      (IsErrOf {T = Vec ℕ Global} (Err fault) Read → read_failed reader_new ≡ true) → (IsErrOf {T = Vec ℕ Global} (Err fault) Write → ⊥) →
+      Runs remaining read_failed contents has_failed has_stalled reader_old reader_new writer_old writer_old input_old input_old IsOutput MayBegin (Err fault)
+  runs-unread fault memory read never = record {
+    written = tt;
+    ran = tt;
+    fault = fault-before remaining read_failed contents has_failed has_stalled reader_old reader_new reader_works writer_old writer_works input_old fault
+        (λ is. memory (ap Err is)) (λ is. read (ap Err is)) (λ is. never (ap Err is));
+    beginning = inl refl;
+  }
 
-    -- it was
-    pub runs-read : (MayWrite : E → Type 0) → ((end : E) → MayWrite end → (output : List ℕ) → IsOutput end output → MayBegin output) → (writer_new : W) (input_new : Vec ℕ Global) → read_failed reader_new ≡ read_failed reader_old → IsWholeInput (remaining reader_old) (remaining reader_new) input_new.items →
-        (result : Result E RunFault) → WritesOutput contents has_failed has_stalled MayWrite IsOutput writer_old writer_new result →
-        Runs remaining read_failed contents has_failed has_stalled reader_old reader_new writer_old writer_new input_old input_new IsOutput MayBegin result
-    runs-read MayWrite follows writer_new input_new works whole (Ok end) so = record {
-      written = (so.0, so.1, so.2.taken.bytes_are);
-      ran = has-run writer_new input_new works whole (so.2.taken.works, so.2.taken.moves);
-      fault = tt;
-      beginning = tt;
-    }
-    runs-read MayWrite follows writer_new input_new works whole (Err fault) so = record {
-      written = tt;
-      ran = tt;
-      fault = fault-after writer_new input_new works whole fault so.not_read so.write so.steady;
-      beginning = elim so.beginning [
-        | inl same ↦ inl same
-        | inr begun ↦ inr (begun.2.0, follows begun.0 begun.1 begun.2.0 begun.2.1, begun.2.2)
-      ];
-    }
+  -- it was
+  pub runs-read : {MayWrite : E → Type 0} → ((end : E) → MayWrite end → (output : List ℕ) → IsOutput end output → MayBegin output) → {writer_new : W} {input_new : Vec ℕ Global} →
+      read_failed reader_new ≡ read_failed reader_old → IsWholeInput (remaining reader_old) (remaining reader_new) input_new.items →
+      (result : Result E RunFault) → WritesOutput contents has_failed has_stalled MayWrite IsOutput writer_old writer_new result →
+      Runs remaining read_failed contents has_failed has_stalled reader_old reader_new writer_old writer_new input_old input_new IsOutput MayBegin result
+  runs-read follows {writer_new} {input_new} works whole (Ok end) so = record {
+    written = (so.0, so.1, so.2.taken.bytes_are);
+    ran = has-run remaining read_failed contents has_failed has_stalled reader_old reader_new reader_works writer_old writer_works input_old writer_new input_new works whole
+        (so.2.taken.works, so.2.taken.moves);
+    fault = tt;
+    beginning = tt;
+  }
+  runs-read follows {writer_new} {input_new} works whole (Err fault) so = record {
+    written = tt;
+    ran = tt;
+    fault = fault-after remaining read_failed contents has_failed has_stalled reader_old reader_new reader_works writer_old writer_works input_old writer_new input_new works whole
+        fault so.not_read so.write so.steady;
+    beginning = elim so.beginning [
+      | inl same ↦ inl same
+      | inr begun ↦ inr (begun.2.0, follows begun.0 begun.1 begun.2.0 begun.2.1, begun.2.2)
+    ];
+  }
 
 -- what is written, where another way to say it follows
 pub runs-also : {W E : Type 0} (contents : W → Option (List ℕ)) (has_failed has_stalled : W → Bool) (MayWrite : E → Type 0) (IsSo IsAlso : E → List ℕ → Type 0) →
@@ -91,3 +104,32 @@ runs-also contents has_failed has_stalled MayWrite IsSo IsAlso follows old new (
   write = so.write;
   steady = so.steady;
 }
+
+-- a run by other words for how it ends, of which the result is told in the first ones
+pub runs-as : {R W E F : Type 0} {remaining : R → Option (List ℕ)} {read_failed : R → Bool} {contents : W → Option (List ℕ)} {has_failed has_stalled : W → Bool}
+    {reader_old reader_new : R} {writer_old writer_new : W} {input_old input_new : Vec ℕ Global} {IsOutput : E → List ℕ → Type 0} {IsOther : F → List ℕ → Type 0} {MayBegin MayBeginSo : List ℕ → Type 0}
+    (seen : E → F) → ((end : E) (output : List ℕ) → IsOutput end output → IsOther (seen end) output) → ((output : List ℕ) → MayBegin output → MayBeginSo output) →
+    (result : Result E RunFault) (other : Result F RunFault) → MatchResult result (λ end. IsOkAnd other (λ last. last ≡ seen end)) (λ fault. other ≡ Err fault) →
+    Runs remaining read_failed contents has_failed has_stalled reader_old reader_new writer_old writer_new input_old input_new IsOutput MayBegin result →
+    Runs remaining read_failed contents has_failed has_stalled reader_old reader_new writer_old writer_new input_old input_new IsOther MayBeginSo other
+runs-as {IsOther = IsOther} seen follows begins (Ok end) (Ok last) is runs =
+    record { written = (runs.written.0, subst (λ end. IsOther end runs.written.0) (sym is) (follows end runs.written.0 runs.written.1), runs.written.2); ran = runs.ran; fault = tt; beginning = tt }
+runs-as seen follows begins (Ok end) (Err fault) is runs = absurd is
+runs-as seen follows begins (Err fault) other is runs = rw is (record {
+  written = tt;
+  ran = tt;
+  fault = runs.fault;
+  beginning = elim runs.beginning [
+    | inl same ↦ inl same
+    | inr begun ↦ inr (begun.0, begins begun.0 begun.1, begun.2)
+  ];
+})
+
+-- a run that may begin with more
+pub runs-begins : {R W E : Type 0} {remaining : R → Option (List ℕ)} {read_failed : R → Bool} {contents : W → Option (List ℕ)} {has_failed has_stalled : W → Bool}
+    {reader_old reader_new : R} {writer_old writer_new : W} {input_old input_new : Vec ℕ Global} {IsOutput : E → List ℕ → Type 0} {MayBegin MayBeginSo : List ℕ → Type 0}
+    → ((output : List ℕ) → MayBegin output → MayBeginSo output) → (result : Result E RunFault) →
+    Runs remaining read_failed contents has_failed has_stalled reader_old reader_new writer_old writer_new input_old input_new IsOutput MayBegin result →
+    Runs remaining read_failed contents has_failed has_stalled reader_old reader_new writer_old writer_new input_old input_new IsOutput MayBeginSo result
+runs-begins begins (Ok end) runs = runs-as (λ end. end) (λ end output so. so) begins (Ok end) (Ok end) refl runs
+runs-begins begins (Err fault) runs = runs-as (λ end. end) (λ end output so. so) begins (Err fault) (Err fault) refl runs

@@ -1,7 +1,7 @@
 -- What the lines of a script say.
 use Rattle.std.specs.Prelude.{ℕ, ◌-◌, ◌^◌, ◌&&◌, List, [], ◌∷◌, map, length, take, drop, Option, Some, None, option_map, ◌==◌, nat_lt, nat_eq, slice_index, if◌then◌else◌, codes, bytes_eq}
-use Rattle.std.specs.List.{slice_split, starts_with, before_first, after_first, position_or_len}
-use Rattle.std.specs.Str.{chars, is_utf8, all_ascii_digits}
+use Rattle.std.specs.List.{slice_split, starts_with, before_first, after_first, before_last, after_last, position_or_len}
+use Rattle.std.specs.Str.{is_utf8, all_ascii_digits}
 use Rattle.std.specs.Str.Parse.{digits_value}
 use Rattle.papergrid_values.specs.Compact.{spaces}
 use Rattle.papergrid_values.specs.declared.entity.Entity.{Entity}
@@ -15,6 +15,7 @@ use Rattle.papergrid_values.specs.Borders.{frame_with}
 use Rattle.papergrid_values.specs.Positions as positions
 use Rattle.papergrid_config.specs.declared.setting.Setting.{Setting}
 use Rattle.papergrid_config.specs.declared.setting.Setting.TheVariants.{SetPadding, SetColumnSpan, SetRowSpan, SetBorders, InsertVerticalLine, InsertHorizontalLine, RemoveVerticalLine, RemoveHorizontalLine}
+use Rattle.papergrid_text.specs.Text.{character_of}
 use Rattle.papergrid_script.specs.Texts.{newline, unescaped}
 
 infixl 10 ◌>>=◌
@@ -40,6 +41,12 @@ abbrev pub parted_at : ℕ → List ℕ → Option (List ℕ × List ℕ)
 parted_at byte bytes =
     if nat_lt (position_or_len (λ b. b == byte) bytes) (length bytes)
     then Some (before_first (λ b. b == byte) bytes, after_first (λ b. b == byte) bytes) else None
+
+-- the same of the last such byte
+abbrev pub parted_at_last : ℕ → List ℕ → Option (List ℕ × List ℕ)
+parted_at_last byte bytes =
+    if nat_lt (position_or_len (λ b. b == byte) bytes) (length bytes)
+    then Some (before_last (λ b. b == byte) bytes, after_last (λ b. b == byte) bytes) else None
 
 -- what the two give of the parts around the first such byte, where both give something
 abbrev pub pair_at : {A B : Type 0} → ℕ → (List ℕ → Option A) → (List ℕ → Option B) → List ℕ
@@ -95,16 +102,6 @@ unfoldable pub placed_span : List ℕ → Option (Position × ℕ)
 placed_span spelled = pair_at space position_said number_said spelled
 
 -- ---- borders and lines
-
--- the one number of a list that has exactly one
-abbrev pub one_alone : List ℕ → Option ℕ
-one_alone [] = None
-one_alone (c ∷ []) = Some c
-one_alone (c ∷ next ∷ cs) = None
-
--- the character that a text is, if it is exactly one
-unfoldable pub character_of : List ℕ → Option ℕ
-character_of spelled = one_alone (chars spelled)
 
 -- a number, and one character after it and a space
 unfoldable pub placed_character : List ℕ → Option (ℕ × ℕ)

@@ -1,3 +1,4 @@
+pub mod Arguments
 pub mod Estimates
 pub mod Grammar
 pub mod Grids
@@ -11,6 +12,7 @@ pub mod Scripts
 pub mod Seen
 pub mod Settings
 pub mod Spelling
+pub mod Statuses
 pub mod Tells
 pub mod Texts
 pub mod Totals

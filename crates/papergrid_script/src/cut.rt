@@ -4,7 +4,7 @@ ghost use Rattle.std.specs.Prelude.{◌≡◌, ◌<◌, ◌==◌, ◌+◌, ◌�
 ghost use Rattle.std.specs.List.{position_or_len};
 ghost use Rattle.papergrid_text.specs.LinesLeft.{lines_of_rest};
 ghost use Rattle.papergrid_text.specs.Text.{split_lines};
-ghost use Rattle.papergrid_script.specs.Grammar.{parted_at};
+ghost use Rattle.papergrid_script.specs.Grammar.{parted_at, parted_at_last};
 
 use papergrid_text::search::{find_byte, find_either};
 use papergrid_text::string::cut_line_at;
@@ -60,4 +60,22 @@ pub fn split_at_byte(text: &str, byte: u8) -> Option<(&str, &str)>
         return None;
     }
     Some(split_around(text, at))
+}
+
+/// What stands before the last such byte, and what stands after it.
+pub fn split_at_last_byte(text: &str, byte: u8) -> Option<(&str, &str)>
+    requires { byte < 128 }
+    ensures parts { option_map (λ parts. (parts.0.now, parts.1.now)) result
+        ≡ parted_at_last byte text.now }
+    ensures text { IfSome result (λ parts. IsUtf8 parts.0.now × IsUtf8 parts.1.now) }
+{
+    let bytes = text.as_bytes();
+    let mut at = bytes.len();
+    while 0 < at {
+        at -= 1;
+        if bytes[at] == byte {
+            return Some(split_around(text, at));
+        }
+    }
+    None
 }

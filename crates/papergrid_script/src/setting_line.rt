@@ -2,11 +2,12 @@
 
 ghost use Rattle.std.specs.Prelude.{◌≡◌, option_map};
 ghost use Rattle.papergrid_script.specs.Settings.{setting_told, spaced_sides};
-ghost use Rattle.papergrid_script.specs.Grammar.{character_of, entity_said, padding_of, placed_character, placed_span, position_said, keyword_setting, sides_of};
+ghost use Rattle.papergrid_script.specs.Grammar.{entity_said, padding_of, placed_character, placed_span, position_said, keyword_setting, sides_of};
 
 use crate::cut::split_at_byte;
 use crate::number::number;
 use crate::script_setting::ScriptSetting;
+use papergrid_text::string::single_character;
 use papergrid_values::{Entity, Position, Sides};
 
 /// The setting of a keyword, and of what stands after it and a space.
@@ -22,25 +23,12 @@ pub fn line_setting(keyword: &str, rest: &str) -> Option<ScriptSetting>
         "rowspan" => placed_span(rest).map(|(position, span)| ScriptSetting::RowSpan(
             position, span,
         )),
-        "border" => character(rest).map(ScriptSetting::Border),
+        "border" => single_character(rest).map(ScriptSetting::Border),
         "vline" => placed_character(rest).map(|(col, c)| ScriptSetting::VerticalLine(col, c)),
         "hline" => placed_character(rest).map(|(row, c)| ScriptSetting::HorizontalLine(row, c)),
         "novline" => number(rest).map(ScriptSetting::NoVerticalLine),
         "nohline" => number(rest).map(ScriptSetting::NoHorizontalLine),
         _ => None,
-    }
-}
-
-/// The character that the text is, if it is exactly one.
-#[tactic(auto, unfolding(crate::specs::Grammar::character_of))]
-fn character(spelled: &str) -> Option<char>
-    ensures { result ≡ character_of spelled.now }
-{
-    let mut chars = spelled.chars();
-    let first = chars.next()?;
-    match chars.next() {
-        None => Some(first),
-        Some(_) => None,
     }
 }
 
@@ -50,7 +38,7 @@ fn placed_character(spelled: &str) -> Option<(usize, char)>
     ensures { result ≡ placed_character spelled.now }
 {
     let (place, rest) = split_at_byte(spelled, b' ')?;
-    Some((number(place)?, character(rest)?))
+    Some((number(place)?, single_character(rest)?))
 }
 
 /// An entity, and four numbers of spaces after it.
@@ -93,7 +81,7 @@ fn entity(spelled: &str) -> Option<Entity>
 
 /// The position at a row and a column with a comma between them.
 #[tactic(auto, unfolding(crate::specs::Grammar::position_said))]
-fn position(spelled: &str) -> Option<Position>
+pub fn position(spelled: &str) -> Option<Position>
     ensures { result ≡ position_said spelled.now }
 {
     let (row, col) = split_at_byte(spelled, b',')?;

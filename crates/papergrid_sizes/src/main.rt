@@ -1,14 +1,16 @@
 //! Reads a script from a file or on standard input, and writes the sizes of its table on standard output.
 #![tactic(auto)]
 
+mod arguments;
 mod help;
 mod totals;
 
+use arguments::{Wanted, asked_for};
 use help::help_text;
 use papergrid::{ReadSource, RunEnd, RunFault, Sizing, WriteSink, run_keeping};
 use papergrid_script::program::{
-    Output, Request, STANDARD_INPUT, Wanted, asked_for, fault, message_of, shown, status, told,
-    unexpected, unopened, unread_words,
+    Output, Request, STANDARD_INPUT, fault, message_of, shown, status, told, unexpected, unopened,
+    unread_words,
 };
 use std::env;
 use std::fs::File;
@@ -31,7 +33,7 @@ fn main(rt: HostRuntime) -> ExitCode {
     };
     // The first word is the program's name.
     let _ = words.next();
-    match asked_for(words, true) {
+    match asked_for(words) {
         Ok((request, wanted)) => answered(&rt, request, wanted),
         Err(argument) => unexpected(&rt, rt.alloc(), argument, &OPTIONS, TAKES),
     }

@@ -1,6 +1,11 @@
 //! The table of a JSON document: drawn, and what keeps it from being drawn.
 
-ghost use Rattle.std.specs.Prelude.{◌≡◌, false};
+ghost use Rattle.std.specs.Prelude.{◌≡◌, false, ⊤};
+ghost use Rattle.papergrid_script.specs.Runs.{Runs};
+ghost use Rattle.papergrid_script.specs.Writing.{WritesOutput};
+ghost use Rattle.papergrid_table.specs.ForProofs.Drafts.{document_end};
+ghost use Rattle.papergrid_table.specs.Pictures.{IsDocumentRun};
+ghost use Rattle.papergrid_table.specs.declared.document.DocumentEnd.{DocumentEnd};
 
 use papergrid::grid::DrawError;
 use papergrid::{RunFault, Sink, Sizing, Source, read_all};
@@ -26,10 +31,29 @@ pub fn run_document<S: Source, W: Sink>(
     writer: &mut W,
     input: &mut Vec<u8>,
 ) -> Result<DocumentEnd, RunFault>
-    requires { S.has_failed reader.old ≡ false }
+    requires reader { S.has_failed reader.old ≡ false }
+    requires writer { W.has_failed writer.old ≡ false }
+    ensures { Runs S.remaining S.has_failed W.contents W.has_failed W.has_stalled
+        reader.old reader.new writer.old writer.new input.old input.new
+        (IsDocumentRun sizing input.new.items)
+        (λ output. (end : DocumentEnd) × IsDocumentRun sizing input.new.items end output)
+        result }
 {
     *input = read_all(alloc, reader)?;
-    match read_document(alloc, input) {
+    draw_text(alloc, sizing, input.as_slice(), writer)
+}
+
+/// Draws the table of the document that a text tells.
+fn draw_text<W: Sink>(
+    alloc: Global,
+    sizing: Sizing,
+    text: &[u8],
+    writer: &mut W,
+) -> Result<DocumentEnd, RunFault>
+    ensures { WritesOutput W.contents W.has_failed W.has_stalled (λ _. ⊤)
+        (IsDocumentRun sizing text.now) writer.old writer.new result }
+{
+    match read_document(alloc, text) {
         Ok(document) => end_of(draw_document(alloc, &document, sizing, writer)),
         Err(DocumentError::Memory) => Err(RunFault::Memory),
         Err(_) => Ok(DocumentEnd::Bad),
@@ -37,7 +61,9 @@ pub fn run_document<S: Source, W: Sink>(
 }
 
 /// How a run ends whose table was drawn so.
-fn end_of(drawn: Result<(), DrawError>) -> Result<DocumentEnd, RunFault> {
+fn end_of(drawn: Result<(), DrawError>) -> Result<DocumentEnd, RunFault>
+    ensures { result ≡ document_end drawn }
+{
     match drawn {
         Ok(()) => Ok(DocumentEnd::Drawn),
         Err(DrawError::Memory(_)) => Err(RunFault::Memory),

@@ -2,12 +2,14 @@
 #![tactic(auto)]
 
 mod arguments;
+mod chosen;
 mod compared;
 mod document;
 mod help;
 mod help_json;
 mod messages;
 mod options;
+mod picture;
 mod places;
 mod progress;
 mod run;

@@ -1,6 +1,10 @@
 //! The options, and what each is followed by.
 
+ghost use Rattle.std.specs.Prelude.{◌≡◌, is_some, map, option_copied, option_map};
+ghost use Rattle.papergrid_table.specs.Options.{known, option_named, option_told, options};
+
 use crate::styles::STYLES;
+use papergrid_script::program::split_at_byte;
 
 /// What an option is about.
 #[derive(Clone, Copy)]
@@ -29,9 +33,7 @@ pub enum Choice {
     Check,
     Strict,
     FitCrossings,
-    Help,
     HelpJson,
-    Version,
 }
 
 /// An option.
@@ -45,82 +47,105 @@ pub struct Listed {
     pub is_of_fields: bool,
 }
 
-/// An option of a table of fields, with its value.
-const fn valued(choice: Choice, name: &'static str, value: &'static str) -> Listed {
+/// An option of this name.
+fn option(
+    choice: Choice,
+    name: &'static str,
+    value: Option<&'static str>,
+    is_of_fields: bool,
+) -> Listed
+    ensures { known result ≡ record {
+      name = name.now;
+      choice = choice;
+      takes_value = is_some value.entry;
+      is_of_fields = is_of_fields;
+    } }
+{
     Listed {
         choice,
         name,
-        value: Some(value),
-        is_of_fields: true,
-    }
-}
-
-/// One without.
-const fn switch(choice: Choice, name: &'static str, is_of_fields: bool) -> Listed {
-    Listed {
-        choice,
-        name,
-        value: None,
+        value,
         is_of_fields,
     }
 }
 
-/// All options.
-fn options() -> [Listed; 27] {
+/// All options of a table.
+fn options() -> [Listed; 25]
+    ensures { map known result ≡ options }
+{
     [
-        switch(Choice::Csv, "--csv", false),
-        switch(Choice::Tsv, "--tsv", false),
-        switch(Choice::Json, "--json", false),
-        switch(Choice::Script, "--script", false),
-        valued(
+        option(Choice::Csv, "--csv", None, false),
+        option(Choice::Tsv, "--tsv", None, false),
+        option(Choice::Json, "--json", None, false),
+        option(Choice::Script, "--script", None, false),
+        option(
             Choice::Delimiter,
             "--delimiter",
-            "one character of ASCII, or tab",
+            Some("one character of ASCII, or tab"),
+            true,
         ),
-        valued(Choice::Style, "--style", "a style"),
-        switch(Choice::Header, "--header", true),
-        switch(Choice::NoHeader, "--no-header", true),
-        valued(Choice::Align, "--align", "an alignment"),
-        valued(Choice::Valign, "--valign", "top, center or bottom"),
-        valued(Choice::Pad, "--pad", "N or L,R,T,B"),
-        valued(Choice::Span, "--span", "R,C=N or R,C=MxN"),
-        switch(Choice::Hide, "--hide", true),
-        valued(Choice::MaxWidth, "--max-width", "a number"),
-        valued(Choice::Width, "--width", "a number from 1 to 1000"),
-        valued(Choice::Cut, "--cut", "a number"),
-        valued(Choice::Tab, "--tab", "a number"),
-        switch(Choice::OneLine, "--one-line", true),
-        switch(Choice::Raw, "--raw", true),
-        switch(Choice::Least, "--least", false),
-        switch(Choice::Witness, "--witness", false),
-        Listed {
-            choice: Choice::Check,
-            name: "--check",
-            value: Some("a file"),
-            is_of_fields: false,
-        },
-        switch(Choice::Strict, "--strict", true),
-        switch(Choice::FitCrossings, "--fit-crossings", true),
-        switch(Choice::Help, "--help", false),
-        switch(Choice::HelpJson, "--help-json", false),
-        switch(Choice::Version, "--version", false),
+        option(Choice::Style, "--style", Some("a style"), true),
+        option(Choice::Header, "--header", None, true),
+        option(Choice::NoHeader, "--no-header", None, true),
+        option(Choice::Align, "--align", Some("an alignment"), true),
+        option(
+            Choice::Valign,
+            "--valign",
+            Some("top, center or bottom"),
+            true,
+        ),
+        option(Choice::Pad, "--pad", Some("N or L,R,T,B"), true),
+        option(Choice::Span, "--span", Some("R,C=N or R,C=MxN"), true),
+        option(Choice::Hide, "--hide", None, true),
+        option(Choice::MaxWidth, "--max-width", Some("a number"), true),
+        option(
+            Choice::Width,
+            "--width",
+            Some("a number from 1 to 1000"),
+            true,
+        ),
+        option(Choice::Cut, "--cut", Some("a number"), true),
+        option(Choice::Tab, "--tab", Some("a number"), true),
+        option(Choice::OneLine, "--one-line", None, true),
+        option(Choice::Raw, "--raw", None, true),
+        option(Choice::Least, "--least", None, false),
+        option(Choice::Witness, "--witness", None, false),
+        option(Choice::Check, "--check", Some("a file"), false),
+        option(Choice::Strict, "--strict", None, true),
+        option(Choice::FitCrossings, "--fit-crossings", None, true),
+        option(Choice::HelpJson, "--help-json", None, false),
     ]
 }
 
-/// The names of all options.
+/// The names of all options, those of the program too.
 pub fn option_names() -> [&'static str; 27] {
-    options().map(|option| option.name)
+    let mut names = ["--version"; 27];
+    for (index, option) in options().iter().enumerate() {
+        names[index] = option.name;
+    }
+    names[25] = "--help";
+    names
 }
 
-/// The option that a word names, with the value that follows it in the same word after `=`.
-pub fn option_of(word: &str) -> Option<(Listed, Option<&str>)> {
-    let (name, value) = match word.split_once('=') {
-        Some((name, value)) => (name, Some(value)),
-        None => (word, None),
-    };
+/// The option of a table that a word names, with the value that follows it in the same word after `=`.
+pub fn option_of(word: &str) -> Option<(Listed, Option<&str>)>
+    ensures { option_map (λ found. (known found.0, option_copied found.1)) result
+        ≡ option_told word.now }
+{
+    match split_at_byte(word, b'=') {
+        None => Some((option_named(word)?, None)),
+        Some((name, value)) => Some((option_named(name)?, Some(value))),
+    }
+}
+
+/// The option of this name.
+#[tactic(auto, unfolding(crate::specs::Options::option_named))]
+fn option_named(name: &str) -> Option<Listed>
+    ensures { option_map known result ≡ option_named name.now }
+{
     for option in options() {
         if option.name == name {
-            return Some((option, value));
+            return Some(option);
         }
     }
     None

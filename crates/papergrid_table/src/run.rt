@@ -1,14 +1,19 @@
 //! A run: the table of an input drawn, or compared, and what keeps it from being drawn.
 
-use crate::arguments::{Kind, Wanted};
+ghost use Rattle.std.specs.Prelude.{◌≡◌, ◌⊎◌, nat_eq};
+ghost use Rattle.std.specs.Process.{exit_status};
+ghost use Rattle.papergrid_table.specs.Statuses.{end_status};
+
+use crate::arguments::Wanted;
 use crate::compared::Compared;
-use crate::document::{DocumentEnd, run_document, said_of_document};
+use crate::document::{DocumentEnd, said_of_document};
 use crate::messages::message_of as message_of_text;
+use crate::picture::{End, run_input};
 use crate::progress::{Progress, Watched};
 use crate::wide::no_cut_fits;
 use crate::witness::{witness_of_script, witness_of_text};
-use papergrid::{ReadSource, RunEnd, RunFault, WriteSink, read_all, run_table};
-use papergrid_csv::{CsvEnd, run_csv, run_csv_within};
+use papergrid::{ReadSource, RunEnd, RunFault, WriteSink, read_all};
+use papergrid_csv::CsvEnd;
 use papergrid_script::program::{Output, fault, message_of, shown, status, unopened};
 use std::alloc::{AllocError, Global};
 use std::fs::File;
@@ -20,14 +25,6 @@ const UNTILED: &str = "spans overlap there, or leave the position to no visible 
 
 /// How many bytes go out at a time.
 const PIECE: usize = 65536;
-
-/// How a run ended, of a text, of a script or of a document.
-#[derive(Clone, Copy)]
-enum End {
-    OfText(CsvEnd),
-    OfScript(RunEnd),
-    OfDocument(DocumentEnd),
-}
 
 /// Draws the table of the input that is read, of this name, or compares it. Whether the input is typed in is told.
 pub fn answered_from<R: Read + Drop>(
@@ -64,7 +61,9 @@ fn drawn<R: Read + Drop>(
         return fault(rt, name, RunFault::Memory, false);
     };
     let mut input = Vec::new(rt.alloc());
-    let mut end = run(rt.alloc(), wanted, reader, &mut out, &mut input);
+    let mut source = ReadSource::new(reader);
+    let mut sink = WriteSink::new(&mut out);
+    let mut end = run_input(rt.alloc(), wanted, &mut source, &mut sink, &mut input);
     if end.is_ok() && out.flush().is_err() {
         end = Err(RunFault::Write);
     }
@@ -103,7 +102,9 @@ fn compared<R: Read + Drop>(
     };
     let mut comparing = Compared::new(&picture.bytes);
     let mut input = Vec::new(rt.alloc());
-    let end = run(rt.alloc(), wanted, reader, &mut comparing, &mut input);
+    let mut source = ReadSource::new(reader);
+    let mut sink = WriteSink::new(&mut comparing);
+    let end = run_input(rt.alloc(), wanted, &mut source, &mut sink, &mut input);
     progress.end();
     match end {
         Ok(end) => {
@@ -144,7 +145,9 @@ fn judged(
     name: &str,
     picture: &str,
     comparing: &Compared<'_>,
-) -> ExitCode {
+) -> ExitCode
+    ensures { (result ≡ code) ⊎ (exit_status result ≡ 1) }
+{
     match comparing.difference() {
         None => code,
         Some((line, column)) => {
@@ -156,40 +159,10 @@ fn judged(
     }
 }
 
-/// Writes the table of the input that is read, keeps the input, and tells how that ended.
-fn run<R: Read + Drop, W: Write>(
-    alloc: Global,
-    wanted: &mut Wanted,
-    reader: R,
-    out: &mut W,
-    input: &mut Vec<u8>,
-) -> Result<End, RunFault> {
-    let mut source = ReadSource::new(reader);
-    let mut writer = WriteSink::new(out);
-    let request = &mut wanted.request;
-    match wanted.kind {
-        Kind::Script => {
-            run_table(alloc, request.sizing, &mut source, &mut writer, input).map(End::OfScript)
-        }
-        Kind::Json => {
-            run_document(alloc, request.sizing, &mut source, &mut writer, input).map(
-                End::OfDocument,
-            )
-        }
-        _ => {
-            let end = match wanted.width {
-                None => run_csv(alloc, request, &mut source, &mut writer, input),
-                Some(width) => {
-                    run_csv_within(alloc, width, request, &mut source, &mut writer, input)
-                }
-            };
-            end.map(End::OfText)
-        }
-    }
-}
-
 /// Whether a picture was written.
-fn is_drawn(end: End) -> bool {
+fn is_drawn(end: End) -> bool
+    ensures { result ≡ nat_eq (end_status end) 0 }
+{
     matches!(
         end,
         End::OfText(CsvEnd::Drawn)
@@ -199,7 +172,10 @@ fn is_drawn(end: End) -> bool {
 }
 
 /// Says what kept the table from being drawn, or which cells show that it is no smaller, where that is asked.
-fn ended(rt: &HostRuntime, wanted: &Wanted, name: &str, input: &[u8], end: End) -> ExitCode {
+fn ended(rt: &HostRuntime, wanted: &Wanted, name: &str, input: &[u8], end: End) -> ExitCode
+    // Where there is no memory for what is said, it is a fault.
+    ensures { (exit_status result ≡ end_status end) ⊎ (exit_status result ≡ 3) }
+{
     let request = &wanted.request;
     if is_drawn(end) && !wanted.witness {
         return ExitCode::from(0);
@@ -244,7 +220,9 @@ fn said_of_script(alloc: Global, wanted: &Wanted, script: &[u8]) -> Result<Strin
 }
 
 /// The status of a run that ended so.
-fn code_of(rt: &HostRuntime, name: &str, end: End) -> ExitCode {
+fn code_of(rt: &HostRuntime, name: &str, end: End) -> ExitCode
+    ensures { exit_status result ≡ end_status end }
+{
     match end {
         End::OfScript(end) => status(rt, name, Ok(end), false),
         End::OfText(CsvEnd::Drawn) | End::OfDocument(DocumentEnd::Drawn) => ExitCode::from(0),

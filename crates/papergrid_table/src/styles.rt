@@ -1,5 +1,8 @@
 //! The names of styles.
 
+ghost use Rattle.std.specs.Prelude.{◌≡◌};
+ghost use Rattle.papergrid_table.specs.Values.{style_named};
+
 use papergrid_csv::Style;
 
 /// The names of all styles.
@@ -9,7 +12,10 @@ pub const STYLES: [&str; 11] = [
 ];
 
 /// The style of this name.
-pub fn style_named(name: &str) -> Option<Style> {
+#[tactic(auto, unfolding(crate::specs::Values::style_named))]
+pub fn style_named(name: &str) -> Option<Style>
+    ensures { result ≡ style_named name.now }
+{
     match name {
         "rounded" => Some(Style::Rounded),
         "ascii" => Some(Style::Ascii),

@@ -1,16 +1,20 @@
 //! What the values of options say, and how they are spelled in messages.
 
-ghost use Rattle.std.specs.Prelude.{◌≡◌, true};
-ghost use Rattle.std.specs.List.{list_all};
-ghost use Rattle.papergrid_values.specs.Keys.{sides_parts};
-ghost use Rattle.papergrid_text.specs.Separators.{is_separator};
+ghost use Rattle.std.specs.Prelude.{◌≡◌, IfOk, option_map};
+ghost use Rattle.papergrid_script.specs.Settings.{spaced_sides};
+ghost use Rattle.papergrid_table.specs.Arguments.{column_told, width_told};
+ghost use Rattle.papergrid_table.specs.Values.{alignment_named, column_number, columns_aligned, delimiter_told, four_sides, padding_told, span_size, span_told, vertical_named};
 
 use papergrid_csv::{Alignment, ColumnName, Span};
+use papergrid_script::program::{number, position, split_at_byte, split_at_last_byte};
 use papergrid_values::{AlignmentHorizontal, AlignmentVertical, Indent, Position, Sides};
 use std::alloc::{AllocError, Global};
 
 /// An alignment by its name.
-pub fn alignment_of(name: &str) -> Option<Alignment> {
+#[tactic(auto, unfolding(crate::specs::Values::alignment_named))]
+pub fn alignment_of(name: &str) -> Option<Alignment>
+    ensures { result ≡ alignment_named name.now }
+{
     match name {
         "left" => Some(Alignment::Fixed(AlignmentHorizontal::Left)),
         "center" => Some(Alignment::Fixed(AlignmentHorizontal::Center)),
@@ -31,7 +35,10 @@ pub fn alignment_name(alignment: Alignment) -> &'static str {
 }
 
 /// An alignment of lines in a row by its name.
-pub fn vertical_of(name: &str) -> Option<AlignmentVertical> {
+#[tactic(auto, unfolding(crate::specs::Values::vertical_named))]
+pub fn vertical_of(name: &str) -> Option<AlignmentVertical>
+    ensures { result ≡ vertical_named name.now }
+{
     match name {
         "top" => Some(AlignmentVertical::Top),
         "center" => Some(AlignmentVertical::Center),
@@ -41,21 +48,21 @@ pub fn vertical_of(name: &str) -> Option<AlignmentVertical> {
 }
 
 /// A column and its alignment, as `c2=right` or `age=right`. What is no number after `c` is a head.
+#[tactic(auto, unfolding(crate::specs::Values::columns_aligned))]
 pub fn column_alignment(
     alloc: Global,
     value: &str,
-) -> Result<Option<(ColumnName, Alignment)>, AllocError> {
-    let Some((column, name)) = value.rsplit_once('=') else {
+) -> Result<Option<(ColumnName, Alignment)>, AllocError>
+    ensures { IfOk result (λ columns. option_map column_told columns
+        ≡ columns_aligned value.now) }
+{
+    let Some((column, name)) = split_at_last_byte(value, b'=') else {
         return Ok(None);
     };
     let Some(alignment) = alignment_of(name) else {
         return Ok(None);
     };
-    let number = match column.strip_prefix('c') {
-        Some(digits) => number_of(digits),
-        None => None,
-    };
-    match number {
+    match column_number(column) {
         Some(number) => Ok(Some((ColumnName::Number(number), alignment))),
         None => {
             let head = String::from_str(alloc, column)?;
@@ -64,16 +71,19 @@ pub fn column_alignment(
     }
 }
 
-/// A number in digits alone.
-pub fn number_of(text: &str) -> Option<usize> {
-    if !text.bytes().all(|byte| byte.is_ascii_digit()) {
-        return None;
-    }
-    text.parse::<usize>().ok()
+/// A number after `c`.
+#[tactic(auto, unfolding(crate::specs::Values::column_number))]
+fn column_number(column: &str) -> Option<usize>
+    ensures { result ≡ column_number column.now }
+{
+    number(column.strip_prefix('c')?)
 }
 
 /// The byte between fields.
-pub fn delimiter_of(value: &str) -> Option<u8> {
+#[tactic(auto, unfolding(crate::specs::Values::delimiter_told))]
+pub fn delimiter_of(value: &str) -> Option<u8>
+    ensures { result ≡ delimiter_told value.now }
+{
     match value.as_bytes() {
         b"tab" => Some(b'\t'),
         [byte] if byte.is_ascii() && *byte != b'"' && *byte != b'\n' && *byte != b'\r' => {
@@ -83,25 +93,42 @@ pub fn delimiter_of(value: &str) -> Option<u8> {
     }
 }
 
-/// Paddings: so many spaces on both sides, as `2`, or left, right, above and below, as `2,1,0,0`.
-pub fn padding_of(value: &str) -> Option<Sides<usize>> {
-    if let Some(side) = number_of(value) {
-        return Some(Sides::new(side, side, 0, 0));
+/// A greatest width: a number from 1 to 1000. Each smaller one may be tried.
+pub fn width_of(value: &str) -> Option<usize>
+    ensures { result ≡ width_told value.now }
+{
+    let width = number(value)?;
+    if 0 < width && width <= 1000 {
+        return Some(width);
     }
-    let (left, others) = value.split_once(',')?;
-    let (right, others) = others.split_once(',')?;
-    let (top, bottom) = others.split_once(',')?;
-    Some(Sides::new(
-        number_of(left)?,
-        number_of(right)?,
-        number_of(top)?,
-        number_of(bottom)?,
-    ))
+    None
+}
+
+/// Paddings: so many spaces on both sides, as `2`, or left, right, above and below, as `2,1,0,0`.
+#[tactic(auto, unfolding(crate::specs::Values::padding_told))]
+pub fn padding_of(value: &str) -> Option<Sides<usize>>
+    ensures { result ≡ padding_told value.now }
+{
+    match number(value) {
+        Some(side) => Some(Sides::new(side, side, 0, 0)),
+        None => four_sides(value),
+    }
+}
+
+/// Four numbers with commas between them: left, right, above and below.
+#[tactic(auto, unfolding(crate::specs::Values::four_sides))]
+fn four_sides(value: &str) -> Option<Sides<usize>>
+    ensures { result ≡ four_sides value.now }
+{
+    let (left, others) = split_at_byte(value, b',')?;
+    let (right, others) = split_at_byte(others, b',')?;
+    let (top, bottom) = split_at_byte(others, b',')?;
+    Some(Sides::new(number(left)?, number(right)?, number(top)?, number(bottom)?))
 }
 
 /// So many spaces left and right, and so many blank lines above and below.
 pub fn padding(sizes: Sides<usize>) -> Sides<Indent>
-    ensures { list_all (λ indent. is_separator indent.fill) (sides_parts result) ≡ true }
+    ensures { result ≡ spaced_sides sizes }
 {
     Sides::new(
         Indent::spaced(sizes.left),
@@ -112,30 +139,32 @@ pub fn padding(sizes: Sides<usize>) -> Sides<Indent>
 }
 
 /// A cell that spans columns, as `0,1=3`, or rows and columns, as `0,1=2x3`.
-pub fn span_of(value: &str) -> Option<Span> {
-    let (place, size) = value.split_once('=')?;
-    let (row, column) = place.split_once(',')?;
+#[tactic(auto, unfolding(crate::specs::Values::span_told))]
+pub fn span_of(value: &str) -> Option<Span>
+    ensures { result ≡ span_told value.now }
+{
+    let (place, size) = split_at_byte(value, b'=')?;
+    let position = position(place)?;
     let (rows, columns) = span_size(size)?;
     if rows == 0 || columns == 0 {
         return None;
     }
     Some(Span {
-        position: Position::new(number_of(row)?, number_of(column)?),
+        position,
         rows,
         columns,
     })
 }
 
 /// How many rows and columns a span has, as `3` or `2x3`.
-fn span_size(size: &str) -> Option<(usize, usize)> {
-    match size.split_once('x') {
-        Some((rows, columns)) => rows_and_columns(rows, columns),
-        None => rows_and_columns("1", size),
+#[tactic(auto, unfolding(crate::specs::Values::span_size))]
+fn span_size(size: &str) -> Option<(usize, usize)>
+    ensures { result ≡ span_size size.now }
+{
+    match split_at_byte(size, b'x') {
+        Some((rows, columns)) => Some((number(rows)?, number(columns)?)),
+        None => Some((1, number(size)?)),
     }
-}
-
-fn rows_and_columns(rows: &str, columns: &str) -> Option<(usize, usize)> {
-    Some((number_of(rows)?, number_of(columns)?))
 }
 
 /// A span as its option tells it.

@@ -1,3 +1,4 @@
+pub mod CharacterLemmas
 pub mod ColumnLemmas
 pub mod Compared
 pub mod Counts

@@ -1,6 +1,6 @@
 -- The lines of a text, its measures and its tabs. A text is the list of its bytes. Byte 9 is a tab,
 -- 10 a newline, 13 a carriage return, 32 a space and 92 a backslash.
-use Rattle.std.specs.Prelude.{◌≡◌, ◌≢◌, ℕ, ◌+◌, ◌<◌, ◌==◌, ◌&&◌, ◌||◌, List, [], ◌∷◌, ◌++◌, length, map, max, not, if◌then◌else◌, Bool, false, replicate, chars, count_by}
+use Rattle.std.specs.Prelude.{◌≡◌, ◌≢◌, ℕ, ◌+◌, ◌<◌, ◌==◌, ◌&&◌, ◌||◌, List, [], ◌∷◌, ◌++◌, Option, Some, None, length, map, max, not, if◌then◌else◌, Bool, false, replicate, chars, count_by}
 use Rattle.std.specs.List.{slice_split, join_with_byte, All, flat_map, zip}
 use Rattle.std.specs.Str.{encode_utf8_all}
 use Rattle.std.specs.Str.Lines.{lines}
@@ -70,3 +70,15 @@ in_place_of n pair = if is_spaced n pair.0 pair.1 then replicate n 32 else pair.
 abbrev pub tabs_replaced : ℕ → List ℕ → List ℕ
 tabs_replaced n text =
     encode_utf8_all (flat_map (in_place_of n) (zip (0 ∷ chars text) (chars text)))
+
+-- ---- one character
+
+-- the only one of these; none where there are none, or several
+abbrev pub only : List ℕ → Option ℕ
+only [] = None
+only (c ∷ []) = Some c
+only (c ∷ next ∷ cs) = None
+
+-- the character that a text is, if it is exactly one
+unfoldable pub character_of : List ℕ → Option ℕ
+character_of text = only (chars text)

@@ -9,7 +9,7 @@ ghost use Rattle.std.specs.Option.{unwrap_or};
 ghost use Rattle.std.specs.Str.{encode_utf8_all};
 ghost use Rattle.unicode_width.specs.Width.{char_width};
 ghost use Rattle.papergrid_text.specs.LinesLeft.{lines_left, lines_of_rest};
-ghost use Rattle.papergrid_text.specs.Text.{split_lines, width_of, text_width, text_dimension, is_spaced, in_place_of, tabs_replaced};
+ghost use Rattle.papergrid_text.specs.Text.{character_of, split_lines, width_of, text_width, text_dimension, is_spaced, in_place_of, tabs_replaced};
 
 use crate::count::count_byte;
 use crate::search::find_byte;
@@ -170,6 +170,19 @@ fn measure_first_line(text: &str, printable: usize) -> (usize, Option<&str>)
     }
     let (line, rest) = cut_line(text);
     (width_by_characters(line, printable), rest)
+}
+
+/// The character that the text is, if it is exactly one.
+#[tactic(auto, unfolding(crate::specs::Text::character_of))]
+pub fn single_character(text: &str) -> Option<char>
+    ensures { result ≡ character_of text.now }
+{
+    let mut characters = text.chars();
+    let first = characters.next()?;
+    match characters.next() {
+        None => Some(first),
+        Some(_) => None,
+    }
 }
 
 /// The text with `n` spaces in place of each tab. Where `n` is not 4, a tab right after a backslash

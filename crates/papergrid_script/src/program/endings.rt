@@ -1,5 +1,9 @@
 //! How a program ends.
 
+ghost use Rattle.std.specs.Prelude.{◌≡◌, ◌⊎◌};
+ghost use Rattle.std.specs.Process.{exit_status};
+ghost use Rattle.papergrid_script.specs.Statuses.{run_status};
+
 use crate::answer::RunEnd;
 use crate::program::arguments::Unexpected;
 use crate::program::names::{not_an_option, shown};
@@ -16,7 +20,9 @@ pub fn status(
     input: &str,
     end: Result<RunEnd, RunFault>,
     is_closed: bool,
-) -> ExitCode {
+) -> ExitCode
+    ensures { exit_status result ≡ run_status end }
+{
     match end {
         Ok(RunEnd::Done) => ExitCode::from(0),
         Ok(RunEnd::Refused) => ExitCode::from(1),
@@ -26,7 +32,9 @@ pub fn status(
 }
 
 /// Writes a text on standard output.
-pub fn told(rt: &HostRuntime, text: &str) -> ExitCode {
+pub fn told(rt: &HostRuntime, text: &str) -> ExitCode
+    ensures { (exit_status result ≡ 0) ⊎ (exit_status result ≡ 3) }
+{
     let mut output = Output::new(rt.stdout());
     let is_written = output.write_all(text.as_bytes()).is_ok() && output.flush().is_ok();
     if is_written {
@@ -38,7 +46,9 @@ pub fn told(rt: &HostRuntime, text: &str) -> ExitCode {
 // Where even a line on standard error cannot be written, the status still tells.
 
 /// Names the fault of a run over the named input, unless nobody reads the output any more.
-pub fn fault(rt: &impl Eprint, input: &str, reason: RunFault, is_closed: bool) -> ExitCode {
+pub fn fault(rt: &impl Eprint, input: &str, reason: RunFault, is_closed: bool) -> ExitCode
+    ensures { exit_status result ≡ 3 }
+{
     match reason {
         RunFault::Memory => {
             let _ = eprintln!(rt; "fault: memory");
@@ -55,7 +65,9 @@ pub fn fault(rt: &impl Eprint, input: &str, reason: RunFault, is_closed: bool) -
 }
 
 /// Names the file that can't be opened.
-pub fn unopened(rt: &impl Eprint, alloc: Global, path: &str, error: &io::Error) -> ExitCode {
+pub fn unopened(rt: &impl Eprint, alloc: Global, path: &str, error: &io::Error) -> ExitCode
+    ensures { exit_status result ≡ 3 }
+{
     match shown(alloc, path) {
         Ok(name) if error.kind() == ErrorKind::NotFound => {
             let _ = eprintln!(rt; "{name}: no such file");
@@ -75,7 +87,9 @@ pub fn unexpected(
     argument: Unexpected,
     names: &[&str],
     takes: &str,
-) -> ExitCode {
+) -> ExitCode
+    ensures { (exit_status result ≡ 2) ⊎ (exit_status result ≡ 3) }
+{
     match unexpected_text(alloc, argument, names, takes) {
         Ok(text) => {
             let _ = eprintln!(rt; "{text}");
@@ -101,7 +115,9 @@ fn unexpected_text(
 }
 
 /// Says why the arguments can't be read: one is no text, or an allocation failed.
-pub fn unread_words(rt: &impl Eprint, error: &io::Error, takes: &str) -> ExitCode {
+pub fn unread_words(rt: &impl Eprint, error: &io::Error, takes: &str) -> ExitCode
+    ensures { (exit_status result ≡ 2) ⊎ (exit_status result ≡ 3) }
+{
     if error.kind() == ErrorKind::InvalidData {
         let _ = eprintln!(rt; "an argument is not UTF-8; {takes}");
         return ExitCode::from(2);

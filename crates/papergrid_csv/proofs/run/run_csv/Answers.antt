@@ -1,4 +1,4 @@
-use Rattle.std.proofs.Common.{Err, ap, subst}
+use Rattle.std.proofs.Common.{subst}
 use Rattle.std.proofs.lemmas.Result.{err_from_is_err_and}
 use Rattle.papergrid_script.specs.Writing.{WritesOutput}
 use Rattle.papergrid_script.proofs.RunLemmas.{runs-read, runs-unread}
@@ -10,15 +10,10 @@ pub returns-in_err-input : goal.returns-in_err-input
 returns-in_err-input g c =
     let p = err_from_is_err_and c.from_residual.result c.from_residual.ensures.1 in
     let read = c.in_err-input.ensures in
-    rw (p.1, p.2) (runs-unread g.S.Source.remaining g.S.Source.has_failed g.W.Sink.contents g.W.Sink.has_failed g.W.Sink.has_stalled
-    c.args.reader.now c.read_all.new.reader c.requires.reader c.args.writer.now c.requires.writer c.args.input.now _ _ c.in_err-input.field-0.0
-    (λ is. read.memory (ap Err is)) (λ is. read.read (ap Err is)) (λ is. read.never_write (ap Err is)))
+    rw (p.1, p.2) (runs-unread c.requires.reader c.requires.writer c.in_err-input.field-0.0 read.memory read.read read.never_write)
 
 pub returns : goal.returns
 returns g c =
     let read = c.in_ok-input.ensures in
-    runs-read g.S.Source.remaining g.S.Source.has_failed g.W.Sink.contents g.W.Sink.has_failed g.W.Sink.has_stalled
-    c.args.reader.now c.read_all.new.reader c.requires.reader c.args.writer.now c.requires.writer c.args.input.now _ _ IsPictured (λ end is output so. subst (λ e. IsCsvRun c.args.request.now c.in_ok-input.field-0.items e output) is so) c.draw_input.new.writer c.in_ok-input.field-0
-    read.works (record { read = read.given; all = read.bytes; at_end = read.end }) c.draw_input.result
-    (subst (λ input. WritesOutput g.W.Sink.contents g.W.Sink.has_failed g.W.Sink.has_stalled IsPictured (IsCsvRun c.args.request.now input) c.args.writer.now c.draw_input.new.writer c.draw_input.result)
-    c.as_slice.ensures.value c.draw_input.ensures)
+    let so = subst (λ input. WritesOutput g.W.Sink.contents g.W.Sink.has_failed g.W.Sink.has_stalled IsPictured (IsCsvRun c.args.request.now input) c.args.writer.now c.draw_input.new.writer c.draw_input.result) c.as_slice.ensures.value c.draw_input.ensures in
+    runs-read c.requires.reader c.requires.writer (λ end is output so. subst (λ e. IsCsvRun c.args.request.now c.in_ok-input.field-0.items e output) is so) read.works (record { read = read.given; all = read.bytes; at_end = read.end }) c.draw_input.result so

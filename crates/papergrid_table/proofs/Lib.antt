@@ -1,0 +1,4 @@
+mod ChosenLemmas
+mod DocumentLemmas
+mod ValueLemmas
+mod WordLemmas

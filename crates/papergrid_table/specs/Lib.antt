@@ -1,0 +1,7 @@
+-- Definitions: what the arguments of the program ask for, and what is written of its input.
+pub mod Arguments
+pub mod Options
+pub mod Pictures
+pub mod Statuses
+pub mod Values
+pub mod ForProofs

@@ -1,0 +1,362 @@
+//! What options choose, and what is said of those that choose nothing.
+
+ghost use Rattle.std.specs.Prelude.{◌≡◌, ◌&&◌, ◌||◌, IfOk, None, OnOk, Some, false, if◌then◌else◌, is_some, not, option_copied, option_map, true, unwrap_or, ⊤};
+ghost use Rattle.std.specs.List.{list_all};
+ghost use Rattle.papergrid_text.specs.Separators.{is_separator};
+ghost use Rattle.papergrid_draw.specs.Crossings.{AreOfFrame};
+ghost use Rattle.papergrid_csv.specs.Requests.{IsSeparating, fitting_characters};
+ghost use Rattle.papergrid_csv.specs.Styles.{fitting_frame};
+ghost use Rattle.papergrid_table.specs.Arguments.{IsWanted, aligned, format_told, is_beside_width, is_of_another, is_refused, nothing_told, of_option, option_taken, switched, value_taken, valued_told};
+ghost use Rattle.papergrid_table.specs.Options.{known};
+ghost use Rattle.papergrid_table.specs.Values.{alignment_named};
+ghost use Rattle.papergrid_table.specs.ForProofs.Drafts.{IsAnswer, IsDrawnIn, IsJudged, IsSaid, number_taken, told_of};
+
+use crate::arguments::{Kind, Misuse, Wanted};
+use crate::options::{Choice, Listed, values_of};
+use crate::styles::{name_of, style_named};
+use crate::values::{
+    alignment_of, column_alignment, delimiter_of, padding, padding_of, span_of, vertical_of,
+    width_of,
+};
+use papergrid::Sizing;
+use papergrid::grid::Junctions;
+use papergrid_csv::{Format, Request, Style};
+use papergrid_script::program::{name_like, number, shown};
+use papergrid_values::Sides;
+use std::alloc::{AllocError, Global};
+
+/// What options choose.
+pub struct Chosen {
+    alloc: Global,
+    kind: Option<Kind>,
+    delimiter: Option<u8>,
+    style: Style,
+    pad: Option<Sides<usize>>,
+    fits: bool,
+    /// The last option that a script or a document does not take.
+    of_fields: Option<&'static str>,
+    /// The rest. Its kind and its lines are chosen at the end.
+    wanted: Wanted,
+}
+
+// By hand: docs/DECISIONS.md, "Drops".
+impl Drop for Chosen {
+    fn drop(self) {
+        let Chosen {
+            alloc: _,
+            kind: _,
+            delimiter: _,
+            style: _,
+            pad: _,
+            fits: _,
+            of_fields: _,
+            wanted: _,
+        } = self;
+    }
+}
+
+impl Chosen {
+    /// Nothing is chosen.
+    pub fn none(alloc: Global) -> Chosen
+        ensures { told_of result ≡ nothing_told }
+    {
+        Chosen {
+            alloc,
+            kind: None,
+            delimiter: None,
+            style: Style::Rounded,
+            pad: None,
+            fits: false,
+            of_fields: None,
+            wanted: Wanted {
+                kind: Kind::Csv,
+                request: Request::in_style(alloc, Style::Rounded),
+                width: None,
+                witness: false,
+                check: None,
+                explains_json: false,
+            },
+        }
+    }
+
+    /// Takes an option, and its value where it stands in the same word; and tells the option if it wants one.
+    pub fn begin(&mut self, option: Listed, value: Option<&str>) -> Result<Option<Listed>, Misuse>
+        ensures { IsAnswer (λ waits. (option_map known waits, told_of self.new))
+            (option_taken (known option) (option_copied value.entry)
+            (of_option (known option) (told_of self.old))) result }
+    {
+        if option.is_of_fields {
+            self.of_fields = Some(option.name);
+        }
+        match (option.value, value) {
+            (Some(_), None) => return Ok(Some(option)),
+            (Some(_), Some(value)) => self.set(&option, value)?,
+            (None, None) => self.set_flag(option.choice),
+            (None, Some(_)) => return Err(self.takes_no_value(&option)),
+        }
+        Ok(None)
+    }
+
+    /// Takes an option without a value.
+    fn set_flag(&mut self, choice: Choice)
+        ensures { told_of self.new ≡ switched choice (told_of self.old) }
+    {
+        let request = &mut self.wanted.request;
+        match choice {
+            Choice::Csv => self.kind = Some(Kind::Csv),
+            Choice::Tsv => self.kind = Some(Kind::Tsv),
+            Choice::Json => self.kind = Some(Kind::Json),
+            Choice::Script => self.kind = Some(Kind::Script),
+            Choice::Header => request.has_head = true,
+            Choice::NoHeader => request.has_head = false,
+            Choice::Hide => request.hides = true,
+            Choice::OneLine => request.reading.one_line = true,
+            Choice::Raw => request.reading.raw = true,
+            Choice::Strict => request.reading.strict = true,
+            Choice::Least => request.sizing = Sizing::Least,
+            Choice::Witness => self.wanted.witness = true,
+            Choice::HelpJson => self.wanted.explains_json = true,
+            Choice::FitCrossings => self.fits = true,
+            _ => {}
+        }
+    }
+
+    /// Takes the value of an option, or says why it is none.
+    pub fn set(&mut self, option: &Listed, value: &str) -> Result<(), Misuse>
+        ensures { IsAnswer (λ _. told_of self.new)
+            (value_taken option.now.choice value.now (told_of self.old)) result }
+    {
+        if self.takes(option.choice, value)? {
+            return Ok(());
+        }
+        Err(said(no_value(self.alloc, option, value)))
+    }
+
+    /// Takes the value of an option; false where it has another form.
+    fn takes(&mut self, choice: Choice, value: &str) -> Result<bool, AllocError>
+        ensures { IfOk result (λ taken. valued_told choice value.now (told_of self.old)
+            ≡ (if taken then Some (told_of self.new) else None)) }
+    {
+        match choice {
+            Choice::Align => return self.align(value),
+            Choice::Span => match span_of(value) {
+                Some(span) => self.wanted.request.spans.push(span)?,
+                None => return Ok(false),
+            },
+            Choice::Check => self.wanted.check = Some(String::from_str(self.alloc, value)?),
+            Choice::Style => match style_named(value) {
+                Some(style) => self.style = style,
+                None => return Ok(false),
+            },
+            Choice::Valign => match vertical_of(value) {
+                Some(vertical) => self.wanted.request.vertical = vertical,
+                None => return Ok(false),
+            },
+            Choice::Pad => {
+                self.pad = padding_of(value);
+                return Ok(self.pad.is_some());
+            }
+            Choice::Delimiter => {
+                self.delimiter = delimiter_of(value);
+                return Ok(self.delimiter.is_some());
+            }
+            Choice::Width => {
+                self.wanted.width = width_of(value);
+                return Ok(self.wanted.width.is_some());
+            }
+            _ => return Ok(self.takes_number(choice, number(value))),
+        }
+        Ok(true)
+    }
+
+    /// Takes the number of an option, if it is one.
+    fn takes_number(&mut self, choice: Choice, number: Option<usize>) -> bool
+        ensures { number_taken choice number (told_of self.old)
+            ≡ (if result then Some (told_of self.new) else None) }
+    {
+        let request = &mut self.wanted.request;
+        match choice {
+            Choice::MaxWidth => request.max_width = number,
+            Choice::Cut => request.cut = number,
+            Choice::Tab => request.reading.tab = number,
+            _ => return false,
+        }
+        number.is_some()
+    }
+
+    /// Takes an alignment, of all cells or of a column.
+    fn align(&mut self, value: &str) -> Result<bool, AllocError>
+        ensures { let alignment = alignment_named value.now in
+            IfOk result (λ taken. aligned value.now alignment (told_of self.old)
+            ≡ (if taken then Some (told_of self.new) else None)) }
+    {
+        let request = &mut self.wanted.request;
+        if let Some(alignment) = alignment_of(value) {
+            request.alignment = alignment;
+            return Ok(true);
+        }
+        match column_alignment(self.alloc, value)? {
+            Some(column) => {
+                request.columns.push(column)?;
+                Ok(true)
+            }
+            None => Ok(false),
+        }
+    }
+
+    /// What is wanted of an input, which is of this kind where no option tells another.
+    pub fn wanted(self, kind: Kind) -> Result<Wanted, Misuse>
+        ensures told { let kind = unwrap_or self.kind kind in
+            IsJudged (is_refused kind (told_of self)) (IsWanted kind (told_of self)) result }
+        ensures separators { IfOk result (λ wanted. IsSeparating wanted.request) }
+    {
+        let kind = self.kind.unwrap_or(kind);
+        self.judge(kind)?;
+        let Chosen {
+            alloc,
+            kind: _,
+            delimiter,
+            style,
+            pad,
+            fits,
+            of_fields: _,
+            mut wanted,
+        } = self;
+        wanted.kind = kind;
+        wanted.request.reading.format = format_of(kind, delimiter);
+        draw_in_style(alloc, style, pad, fits, &mut wanted.request)?;
+        Ok(wanted)
+    }
+
+    /// Refuses options that are not for an input of this kind, or not beside another one.
+    fn judge(&self, kind: Kind) -> Result<(), Misuse>
+        ensures { let told = told_of self.now in
+            IsJudged (is_of_another kind told || is_beside_width told) (λ _. ⊤) result }
+    {
+        let another = match (kind, self.of_fields, self.delimiter) {
+            (Kind::Script, Some(name), _) => {
+                Some((name, "for CSV and TSV alone, and the input is a script"))
+            }
+            (Kind::Json, Some(name), _) => Some((
+                name,
+                "for CSV and TSV alone, and the input is JSON",
+            )),
+            (Kind::Json, None, _) if self.wanted.witness => {
+                Some(("--witness", "not for JSON, and the input is JSON"))
+            }
+            (Kind::Tsv, _, Some(_)) => Some(("--delimiter", "for CSV alone, and the input is TSV")),
+            _ => self.beside_width(),
+        };
+        match another {
+            None => Ok(()),
+            Some((name, text)) => Err(said(format!(in self.alloc; "{name}: {text}"))),
+        }
+    }
+
+    /// Which option stands beside `--width`, which chooses the values of some.
+    fn beside_width(&self) -> Option<(&'static str, &'static str)>
+        ensures { is_some result ≡ is_beside_width (told_of self.now) }
+    {
+        let request = &self.wanted.request;
+        self.wanted.width?;
+        if request.cut.is_some() {
+            return Some(("--width", "not together with --cut"));
+        }
+        request.max_width?;
+        Some(("--width", "not together with --max-width"))
+    }
+
+    /// What is said of an option that is the last word, and has no value.
+    pub fn lacks_value(&self, option: &Listed) -> Misuse
+        ensures { IsSaid result }
+    {
+        let name = option.name;
+        let value = option.value.unwrap_or("a value");
+        said(format!(in self.alloc; "{name}: no value follows; it takes {value}"))
+    }
+
+    /// What is said of an option that stands with a value in one word, and takes none.
+    fn takes_no_value(&self, option: &Listed) -> Misuse
+        ensures { IsSaid result }
+    {
+        let name = option.name;
+        said(format!(in self.alloc; "{name}: takes no value"))
+    }
+}
+
+/// A misuse of which this is said, if there was memory for it.
+fn said(text: Result<String, AllocError>) -> Misuse
+    ensures { IsSaid result }
+{
+    match text {
+        Ok(text) => Misuse::Said(text),
+        Err(_) => Misuse::Memory,
+    }
+}
+
+/// What is said of a word that is no value of the option.
+fn no_value(alloc: Global, option: &Listed, word: &str) -> Result<String, AllocError> {
+    let name = option.name;
+    let takes = option.value.unwrap_or("a value");
+    let last = match word.rsplit_once('=') {
+        Some((_, last)) => last,
+        None => word,
+    };
+    let like = name_like(alloc, last, values_of(option.choice))?;
+    let written = shown(alloc, word)?;
+    match like {
+        Some(like) => format!(in alloc; "{name} {written}: not {takes}; did you mean {like}?"),
+        None => format!(in alloc; "{name} {written}: not {takes}"),
+    }
+}
+
+/// The form of a text.
+fn format_of(kind: Kind, delimiter: Option<u8>) -> Format
+    ensures { result ≡ format_told kind delimiter }
+{
+    match kind {
+        Kind::Tsv => Format::Tsv,
+        _ => Format::Csv(delimiter.unwrap_or(b',')),
+    }
+}
+
+/// Asks for the lines of a style, for its padding where no other is told, and for crossings that fit the spans if they are to.
+fn draw_in_style(
+    alloc: Global,
+    style: Style,
+    pad: Option<Sides<usize>>,
+    fits: bool,
+    request: &mut Request,
+) -> Result<(), Misuse>
+    ensures drawn { IsJudged (fits && not (is_some (fitting_frame style).intersection))
+        (λ _. IsDrawnIn style pad fits request.old request.new) result }
+    ensures separators { OnOk result (IsSeparating request.new) }
+{
+    request.frame = style.frame();
+    request.head = style.head(request.has_head);
+    let side = style.padding();
+    request.padding = padding(pad.unwrap_or(Sides::new(side, side, 0, 0)));
+    request.junctions = if fits {
+        Some(junctions_of(alloc, style)?)
+    } else {
+        None
+    };
+    Ok(())
+}
+
+/// The characters that fit crossings to spans. Not each style has all of them.
+fn junctions_of(alloc: Global, style: Style) -> Result<Junctions, Misuse>
+    ensures crossings { let frame = fitting_frame style in
+        IsJudged (not (is_some frame.intersection)) (AreOfFrame frame) result }
+    ensures separators { IfOk result (λ junctions.
+        list_all is_separator (fitting_characters (Some junctions)) ≡ true) }
+{
+    match style.junctions() {
+        Some(junctions) => Ok(junctions),
+        None => {
+            let name = name_of(style);
+            let text = "has no crossings to fit";
+            Err(said(format!(in alloc; "--fit-crossings: the style {name} {text}")))
+        }
+    }
+}

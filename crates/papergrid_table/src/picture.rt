@@ -1,0 +1,52 @@
+//! The picture of an input, of a text, a script or a document.
+
+ghost use Rattle.std.specs.Prelude.{◌≡◌, OnOk, false};
+ghost use Rattle.papergrid_script.specs.Runs.{Runs};
+ghost use Rattle.papergrid_table.specs.Pictures.{IsCutOf, IsRunOf};
+ghost use Rattle.papergrid_table.specs.declared.picture.End.{End};
+
+use crate::arguments::{Kind, Wanted};
+use crate::document::{DocumentEnd, run_document};
+use papergrid::{RunEnd, RunFault, Sink, Source, run_table};
+use papergrid_csv::{CsvEnd, run_csv, run_csv_within};
+use std::alloc::Global;
+
+/// How a run ended, of a text, of a script or of a document.
+#[derive(Clone, Copy)]
+pub enum End {
+    OfText(CsvEnd),
+    OfScript(RunEnd),
+    OfDocument(DocumentEnd),
+}
+
+/// Writes the picture of the input that is read, keeps the input, and tells how that ended.
+pub fn run_input<S: Source, W: Sink>(
+    alloc: Global,
+    wanted: &mut Wanted,
+    reader: &mut S,
+    writer: &mut W,
+    input: &mut Vec<u8>,
+) -> Result<End, RunFault>
+    requires reader { S.has_failed reader.old ≡ false }
+    requires writer { W.has_failed writer.old ≡ false }
+    ensures runs { Runs S.remaining S.has_failed W.contents W.has_failed W.has_stalled
+        reader.old reader.new writer.old writer.new input.old input.new
+        (IsRunOf wanted.old.kind wanted.old wanted.new.request.cut input.new.items)
+        (λ output. (end : End) × IsRunOf wanted.old.kind wanted.old wanted.new.request.cut
+        input.new.items end output) result }
+    ensures wanted { OnOk result (IsCutOf wanted.old.kind wanted.old wanted.new) }
+{
+    let sizing = wanted.request.sizing;
+    match wanted.kind {
+        Kind::Script => run_table(alloc, sizing, reader, writer, input).map(End::OfScript),
+        Kind::Json => run_document(alloc, sizing, reader, writer, input).map(End::OfDocument),
+        Kind::Csv | Kind::Tsv => match wanted.width {
+            None => run_csv(alloc, &wanted.request, reader, writer, input).map(End::OfText),
+            Some(width) => {
+                run_csv_within(alloc, width, &mut wanted.request, reader, writer, input).map(
+                    End::OfText,
+                )
+            }
+        },
+    }
+}
