@@ -95,7 +95,8 @@ impl Request {
           raw = false;
           strict = false;
         } }
-        ensures lines { (result.frame ≡ style_frame style) × (result.head ≡ style_head style true) }
+        ensures lines { (result.frame ≡ style_frame style)
+            × (result.head ≡ style_head style true) }
         ensures head { result.has_head ≡ true }
         ensures padding { let side = spaces (style_padding style) in
             result.padding ≡ record (all_sides (spaces 0)) { left = side; right = side } }
