@@ -20,7 +20,7 @@ pub use papergrid_layout::{Sizing, Table};
 pub use papergrid_script::answer::RunEnd;
 pub use papergrid_script::explained::{Reason, explain};
 pub use papergrid_script::reading::{RunFault, read_all};
-pub use papergrid_text::transfer::{Failed, ReadSource, Sink, Source, WriteSink};
+pub use papergrid_text::transfer::{ByteSink, Failed, ReadSource, Sink, Source, WriteSink};
 pub use running::{run, run_keeping};
 pub use table_layout::{layout, layout_least};
 

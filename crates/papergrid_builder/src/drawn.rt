@@ -12,7 +12,6 @@ ghost use Rattle.papergrid_builder.specs.Told.{longest};
 ghost use Rattle.papergrid_builder.specs.ForProofs.Sizes.{IsPictureRefused, draw_refusal};
 ghost use Rattle.papergrid_builder.specs.ForProofs.Texts.{AreStarts, rows_lent, rows_told};
 
-use crate::byte_sink::ByteSink;
 use crate::cells::CellTexts;
 use crate::error::BuilderError;
 use crate::rows::{longest_of, rows_of};
@@ -21,6 +20,7 @@ use papergrid_draw::{DrawError, Room, TextCells, draw_lines};
 use papergrid_json::configuration;
 use papergrid_layout::{Sizing, Table};
 use papergrid_text::IterRecords;
+use papergrid_text::transfer::ByteSink;
 use std::alloc::Global;
 
 /// The picture of cells, by where each row begins among them, by settings, each line with a line feed.
@@ -69,10 +69,7 @@ fn drawn_by(
     };
     let mut sink = ByteSink::new(alloc);
     match draw_lines(alloc, &table, &cells, Room::Known, &mut sink) {
-        Ok(()) => {
-            let ByteSink { bytes, failed: _ } = sink;
-            Ok(bytes)
-        }
+        Ok(()) => Ok(sink.into_bytes()),
         Err(error) => Err(refusal(error)),
     }
 }

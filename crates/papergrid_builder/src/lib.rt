@@ -3,7 +3,6 @@
 #![tactic(auto)]
 
 mod builder;
-mod byte_sink;
 mod cells;
 mod drawn;
 mod error;

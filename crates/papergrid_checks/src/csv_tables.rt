@@ -10,7 +10,7 @@ ghost use Rattle.papergrid_csv.specs.declared.run.CsvEnd.TheVariants.{Drawn};
 ghost use Rattle.papergrid_csv.specs.declared.style.Style.TheVariants.{Plain};
 ghost use Rattle.papergrid_checks.specs.Written.{AppendsBeginning};
 
-use papergrid::{ReadSource, RunFault, Sink};
+use papergrid::{ByteSink, ReadSource, RunFault, Sink};
 use papergrid_csv::{Alignment, CsvEnd, Request, Style, run_csv, run_csv_within};
 use std::alloc::Global;
 
@@ -68,4 +68,17 @@ pub fn csv_table_within<W: Sink>(
     let mut reader = ReadSource::new(text);
     let mut input = Vec::new(alloc);
     run_csv_within(alloc, width, request, &mut reader, writer, &mut input)
+}
+
+/// The table of a CSV text by a request, in memory, and how that ended.
+pub fn csv_table_in_memory(
+    alloc: Global,
+    request: &Request,
+    text: &[u8],
+) -> Result<(CsvEnd, Vec<u8>), RunFault>
+    ensures { IfOk result (λ drawn. IsCsvRun request.now text.now drawn.0 drawn.1.items) }
+{
+    let mut sink = ByteSink::new(alloc);
+    let end = csv_table(alloc, request, text, &mut sink)?;
+    Ok((end, sink.into_bytes()))
 }

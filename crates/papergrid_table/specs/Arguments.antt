@@ -38,6 +38,10 @@ use Rattle.papergrid_table.specs.declared.arguments.Misuse.TheVariants as misuse
 use Rattle.papergrid_table.specs.declared.arguments.Wanted.{Wanted}
 use Rattle.papergrid_table.specs.declared.options.Choice.{Choice}
 use Rattle.papergrid_table.specs.declared.options.Choice.TheVariants as choices
+use Rattle.papergrid_table.specs.declared.options.Flag.{Flag}
+use Rattle.papergrid_table.specs.declared.options.Flag.TheVariants as flags
+use Rattle.papergrid_table.specs.declared.options.Valued.{Valued}
+use Rattle.papergrid_table.specs.declared.options.Valued.TheVariants as valueds
 
 -- ---- what options tell
 
@@ -97,22 +101,17 @@ nothing_told = record {
 }
 
 -- the same with an option more that has no value
-abbrev pub switched : Choice → OptionsTold → OptionsTold
-switched choices.Csv told = record told { kind = Some kinds.Csv }
-switched choices.Tsv told = record told { kind = Some kinds.Tsv }
-switched choices.Json told = record told { kind = Some kinds.Json }
-switched choices.Script told = record told { kind = Some kinds.Script }
-switched choices.Header told = record told { has_head = true }
-switched choices.NoHeader told = record told { has_head = false }
-switched choices.Hide told = record told { hides = true }
-switched choices.OneLine told = record told { one_line = true }
-switched choices.Raw told = record told { raw = true }
-switched choices.Strict told = record told { strict = true }
-switched choices.Least told = record told { sizing = sizings.Least }
-switched choices.Witness told = record told { witness = true }
-switched choices.HelpJson told = record told { explains_json = true }
-switched choices.FitCrossings told = record told { fits = true }
-switched choice told = told
+abbrev pub switched : Flag → OptionsTold → OptionsTold
+switched (flags.Kind kind) told = record told { kind = Some kind }
+switched (flags.Head has_head) told = record told { has_head = has_head }
+switched flags.Hide told = record told { hides = true }
+switched flags.OneLine told = record told { one_line = true }
+switched flags.Raw told = record told { raw = true }
+switched flags.Strict told = record told { strict = true }
+switched flags.Least told = record told { sizing = sizings.Least }
+switched flags.Witness told = record told { witness = true }
+switched flags.HelpJson told = record told { explains_json = true }
+switched flags.FitCrossings told = record told { fits = true }
 
 -- the greatest width of a table, from 1 to 1000
 abbrev pub width_told : List ℕ → Option ℕ
@@ -124,28 +123,26 @@ aligned value (Some alignment) told = Some (record told { alignment = alignment 
 aligned value None told = option_map (λ columns. record told { columns = told.columns ++ columns ∷ [] }) (columns_aligned value)
 
 -- the same with an option more that has this value; nothing where the value has another form
-abbrev pub valued_told : Choice → List ℕ → OptionsTold → Option OptionsTold
-valued_told choices.Delimiter value told = option_map (λ byte. record told { delimiter = Some byte }) (delimiter_told value)
-valued_told choices.Style value told = option_map (λ style. record told { style = style }) (style_named value)
-valued_told choices.Align value told = aligned value (alignment_named value) told
-valued_told choices.Valign value told = option_map (λ vertical. record told { vertical = vertical }) (vertical_named value)
-valued_told choices.Pad value told = option_map (λ sides. record told { pad = Some sides }) (padding_told value)
-valued_told choices.Span value told = option_map (λ span. record told { spans = told.spans ++ span ∷ [] }) (span_told value)
-valued_told choices.MaxWidth value told = option_map (λ number. record told { max_width = Some number }) (number_said value)
-valued_told choices.Width value told = option_map (λ number. record told { width = Some number }) (width_told value)
-valued_told choices.Cut value told = option_map (λ number. record told { cut = Some number }) (number_said value)
-valued_told choices.Tab value told = option_map (λ number. record told { tab = Some number }) (number_said value)
-valued_told choices.Check value told = Some (record told { check = Some value })
-valued_told choice value told = None
+abbrev pub valued_told : Valued → List ℕ → OptionsTold → Option OptionsTold
+valued_told valueds.Delimiter value told = option_map (λ byte. record told { delimiter = Some byte }) (delimiter_told value)
+valued_told valueds.Style value told = option_map (λ style. record told { style = style }) (style_named value)
+valued_told valueds.Align value told = aligned value (alignment_named value) told
+valued_told valueds.Valign value told = option_map (λ vertical. record told { vertical = vertical }) (vertical_named value)
+valued_told valueds.Pad value told = option_map (λ sides. record told { pad = Some sides }) (padding_told value)
+valued_told valueds.Span value told = option_map (λ span. record told { spans = told.spans ++ span ∷ [] }) (span_told value)
+valued_told valueds.MaxWidth value told = option_map (λ number. record told { max_width = Some number }) (number_said value)
+valued_told valueds.Width value told = option_map (λ number. record told { width = Some number }) (width_told value)
+valued_told valueds.Cut value told = option_map (λ number. record told { cut = Some number }) (number_said value)
+valued_told valueds.Tab value told = option_map (λ number. record told { tab = Some number }) (number_said value)
+valued_told valueds.Check value told = Some (record told { check = Some value })
 
 -- ---- what words say
 
--- whether the next word may be an option, what one of them asked for, the option whose value is the next word, and what all
--- options tell
+-- whether the next word may be an option, what one of them asked for, which option's value is the next word, and what all tell
 pub record WordsSaid : Type 0 where
   pub takes_options : Bool
   pub asked : Option programs.Request
-  pub waits : Option Known
+  pub waits : Option Valued
   pub told : OptionsTold
 
 -- no word yet
@@ -153,14 +150,15 @@ abbrev pub unsaid : WordsSaid
 unsaid = record { takes_options = true; asked = None; waits = None; told = nothing_told }
 
 -- a value of another form is refused
-abbrev pub value_taken : Choice → List ℕ → OptionsTold → Result OptionsTold (Option Unexpected)
-value_taken choice value told = ok_or (valued_told choice value told) None
+abbrev pub value_taken : Valued → List ℕ → OptionsTold → Result OptionsTold (Option Unexpected)
+value_taken valued value told = ok_or (valued_told valued value told) None
 
--- what an option tells that has its value in the same word, or has none; or the option itself, whose value is the next word
-abbrev pub option_taken : Known → Option (List ℕ) → OptionsTold → Result (Option Known × OptionsTold) (Option Unexpected)
-option_taken option None told = Ok (if option.takes_value then (Some option, told) else (None, switched option.choice told))
-option_taken option (Some value) told =
-    if option.takes_value then result_map_both (λ told. (None, told)) (λ e. e) (value_taken option.choice value told) else Err None
+-- what an option tells by itself, or by its value in the same word. Else the next word is the value
+abbrev pub option_taken : Choice → Option (List ℕ) → OptionsTold → Result (Option Valued × OptionsTold) (Option Unexpected)
+option_taken (choices.Flag flag) None told = Ok (None, switched flag told)
+option_taken (choices.Flag flag) (Some value) told = Err None
+option_taken (choices.Valued valued) None told = Ok (Some valued, told)
+option_taken (choices.Valued valued) (Some value) told = result_map_both (λ told. (None, told)) (λ e. e) (value_taken valued value told)
 
 -- told of an option that may be for CSV and TSV alone
 abbrev pub of_option : Known → OptionsTold → OptionsTold
@@ -174,12 +172,12 @@ with_other_word word said = result_map_both (λ request. record said { asked = S
 abbrev pub with_option_word : String Global → Option (Known × Option (List ℕ)) → WordsSaid → Result WordsSaid (Option Unexpected)
 with_option_word word None said = with_other_word word said
 with_option_word word (Some option) said =
-    result_map_both (λ after. record said { waits = after.0; told = after.1 }) (λ e. e) (option_taken option.0 option.1 (of_option option.0 said.told))
+    result_map_both (λ after. record said { waits = after.0; told = after.1 }) (λ e. e) (option_taken option.0.choice option.1 (of_option option.0 said.told))
 
 -- with a word that is the value of an option, if one waits
-abbrev pub with_value_word : String Global → Option Known → WordsSaid → Result WordsSaid (Option Unexpected)
-with_value_word word (Some option) said =
-    result_map_both (λ told. record said { waits = None; told = told }) (λ e. e) (value_taken option.choice (string_bytes word) said.told)
+abbrev pub with_value_word : String Global → Option Valued → WordsSaid → Result WordsSaid (Option Unexpected)
+with_value_word word (Some valued) said =
+    result_map_both (λ told. record said { waits = None; told = told }) (λ e. e) (value_taken valued (string_bytes word) said.told)
 with_value_word word None said =
     if not said.takes_options then with_other_word word said
     else if bytes_eq (string_bytes word) (codes "--") then Ok (record said { takes_options = false })

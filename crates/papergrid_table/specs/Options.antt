@@ -1,62 +1,66 @@
 -- The options of a table.
-use Rattle.std.specs.Prelude.{ℕ, Bool, true, false, List, [], ◌∷◌, Option, Some, None, bytes_eq, codes, is_some, option_map}
+use Rattle.std.specs.Prelude.{ℕ, Bool, true, false, List, [], ◌∷◌, Option, Some, None, bytes_eq, codes, option_map}
 use Rattle.std.specs.List.{find}
 use Rattle.papergrid_script.specs.Grammar.{parted_at}
 use Rattle.papergrid_table.specs.Values.{equals_sign}
+use Rattle.papergrid_table.specs.declared.arguments.Kind.TheVariants.{Csv, Json, Script, Tsv}
 use Rattle.papergrid_table.specs.declared.options.Choice.{Choice}
-use Rattle.papergrid_table.specs.declared.options.Choice.TheVariants.{Align, Check, Csv, Cut, Delimiter, FitCrossings, Header, HelpJson, Hide, Json, Least, MaxWidth, NoHeader, OneLine, Pad, Raw, Script, Span, Strict, Style, Tab, Tsv, Valign, Width, Witness}
+use Rattle.papergrid_table.specs.declared.options.Choice.TheVariants as choices
+use Rattle.papergrid_table.specs.declared.options.Flag.{Flag}
+use Rattle.papergrid_table.specs.declared.options.Flag.TheVariants.{FitCrossings, Head, HelpJson, Hide, Kind, Least, OneLine, Raw, Strict, Witness}
 use Rattle.papergrid_table.specs.declared.options.Listed.{Listed}
+use Rattle.papergrid_table.specs.declared.options.Valued.{Valued}
+use Rattle.papergrid_table.specs.declared.options.Valued.TheVariants.{Align, Check, Cut, Delimiter, MaxWidth, Pad, Span, Style, Tab, Valign, Width}
 
--- an option: its name, what it is about, whether a value follows, and whether it is for CSV and TSV alone
+-- an option: its name, what it tells by itself or by its value, and whether it is for CSV and TSV alone
 pub record Known : Type 0 where
   pub name : List ℕ
   pub choice : Choice
-  pub takes_value : Bool
   pub is_of_fields : Bool
 
--- one without a value
-abbrev pub flag : Choice → List ℕ → Known
-flag choice name = record { name = name; choice = choice; takes_value = false; is_of_fields = false }
+-- one for each input
+abbrev pub of_inputs : Choice → List ℕ → Known
+of_inputs choice name = record { name = name; choice = choice; is_of_fields = false }
 
--- one without a value, for CSV and TSV alone
-abbrev pub flag_of_fields : Choice → List ℕ → Known
-flag_of_fields choice name = record (flag choice name) { is_of_fields = true }
+-- one without a value
+abbrev pub flag : Flag → List ℕ → Known
+flag told = of_inputs (choices.Flag told)
 
 -- one with a value
-abbrev pub valued : Choice → List ℕ → Known
-valued choice name = record (flag choice name) { takes_value = true }
+abbrev pub valued : Valued → List ℕ → Known
+valued told = of_inputs (choices.Valued told)
 
--- one with a value, for CSV and TSV alone
-abbrev pub valued_of_fields : Choice → List ℕ → Known
-valued_of_fields choice name = record (valued choice name) { is_of_fields = true }
+-- one for CSV and TSV alone
+abbrev pub of_fields : Known → Known
+of_fields option = record option { is_of_fields = true }
 
 -- all options, but for those of the program itself
 abbrev pub options : List Known
 options =
-    flag Csv (codes "--csv")
-    ∷ flag Tsv (codes "--tsv")
-    ∷ flag Json (codes "--json")
-    ∷ flag Script (codes "--script")
-    ∷ valued_of_fields Delimiter (codes "--delimiter")
-    ∷ valued_of_fields Style (codes "--style")
-    ∷ flag_of_fields Header (codes "--header")
-    ∷ flag_of_fields NoHeader (codes "--no-header")
-    ∷ valued_of_fields Align (codes "--align")
-    ∷ valued_of_fields Valign (codes "--valign")
-    ∷ valued_of_fields Pad (codes "--pad")
-    ∷ valued_of_fields Span (codes "--span")
-    ∷ flag_of_fields Hide (codes "--hide")
-    ∷ valued_of_fields MaxWidth (codes "--max-width")
-    ∷ valued_of_fields Width (codes "--width")
-    ∷ valued_of_fields Cut (codes "--cut")
-    ∷ valued_of_fields Tab (codes "--tab")
-    ∷ flag_of_fields OneLine (codes "--one-line")
-    ∷ flag_of_fields Raw (codes "--raw")
+    flag (Kind Csv) (codes "--csv")
+    ∷ flag (Kind Tsv) (codes "--tsv")
+    ∷ flag (Kind Json) (codes "--json")
+    ∷ flag (Kind Script) (codes "--script")
+    ∷ of_fields (valued Delimiter (codes "--delimiter"))
+    ∷ of_fields (valued Style (codes "--style"))
+    ∷ of_fields (flag (Head true) (codes "--header"))
+    ∷ of_fields (flag (Head false) (codes "--no-header"))
+    ∷ of_fields (valued Align (codes "--align"))
+    ∷ of_fields (valued Valign (codes "--valign"))
+    ∷ of_fields (valued Pad (codes "--pad"))
+    ∷ of_fields (valued Span (codes "--span"))
+    ∷ of_fields (flag Hide (codes "--hide"))
+    ∷ of_fields (valued MaxWidth (codes "--max-width"))
+    ∷ of_fields (valued Width (codes "--width"))
+    ∷ of_fields (valued Cut (codes "--cut"))
+    ∷ of_fields (valued Tab (codes "--tab"))
+    ∷ of_fields (flag OneLine (codes "--one-line"))
+    ∷ of_fields (flag Raw (codes "--raw"))
     ∷ flag Least (codes "--least")
     ∷ flag Witness (codes "--witness")
     ∷ valued Check (codes "--check")
-    ∷ flag_of_fields Strict (codes "--strict")
-    ∷ flag_of_fields FitCrossings (codes "--fit-crossings")
+    ∷ of_fields (flag Strict (codes "--strict"))
+    ∷ of_fields (flag FitCrossings (codes "--fit-crossings"))
     ∷ flag HelpJson (codes "--help-json")
     ∷ []
 
@@ -78,6 +82,5 @@ abbrev pub known : Listed → Known
 known listed = record {
   name = listed.name.now;
   choice = listed.choice;
-  takes_value = is_some listed.value;
   is_of_fields = listed.is_of_fields;
 }

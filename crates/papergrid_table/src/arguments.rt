@@ -8,7 +8,7 @@ ghost use Rattle.papergrid_table.specs.Options.{option_told};
 ghost use Rattle.papergrid_table.specs.ForProofs.Drafts.{IsAnswer, said_of};
 
 use crate::chosen::Chosen;
-use crate::options::{Listed, option_of};
+use crate::options::{Waiting, option_of};
 use papergrid_csv::Request;
 use papergrid_script::program::{Request as Asked, Unexpected, asked_by};
 use std::alloc::{AllocError, Global};
@@ -78,7 +78,7 @@ struct Draft {
     takes_options: bool,
     asked: Option<Asked>,
     /// The option whose value is the next word.
-    waits: Option<Listed>,
+    waits: Option<Waiting>,
     chosen: Chosen,
 }
 
@@ -120,7 +120,7 @@ impl Draft {
     {
         if let Some(option) = self.waits {
             self.waits = None;
-            return self.chosen.set(&option, word.as_str());
+            return self.chosen.set(option, word.as_str());
         }
         if !self.takes_options {
             return self.ask(word);
@@ -173,7 +173,7 @@ impl Draft {
             chosen,
         } = self;
         if let Some(option) = waits {
-            return Err(chosen.lacks_value(&option));
+            return Err(chosen.lacks_value(option));
         }
         let asked = asked.unwrap_or(Asked::OfInput);
         let wanted = chosen.wanted(kind_of_file(&asked))?;

@@ -9,10 +9,10 @@ ghost use Rattle.papergrid_csv.specs.Styles.{fitting_frame};
 ghost use Rattle.papergrid_table.specs.Arguments.{IsWanted, aligned, format_told, is_beside_width, is_of_another, is_refused, nothing_told, of_option, option_taken, switched, value_taken, valued_told};
 ghost use Rattle.papergrid_table.specs.Options.{known};
 ghost use Rattle.papergrid_table.specs.Values.{alignment_named};
-ghost use Rattle.papergrid_table.specs.ForProofs.Drafts.{IsAnswer, IsDrawnIn, IsJudged, IsSaid, number_taken, told_of};
+ghost use Rattle.papergrid_table.specs.ForProofs.Drafts.{IsAnswer, IsDrawnIn, IsJudged, IsSaid, told_of};
 
 use crate::arguments::{Kind, Misuse, Wanted};
-use crate::options::{Choice, Listed, values_of};
+use crate::options::{Choice, Flag, Listed, Valued, Waiting};
 use crate::styles::{name_of, style_named};
 use crate::values::{
     alignment_of, column_alignment, delimiter_of, padding, padding_of, span_of, vertical_of,
@@ -80,108 +80,84 @@ impl Chosen {
     }
 
     /// Takes an option, and its value where it stands in the same word; and tells the option if it wants one.
-    pub fn begin(&mut self, option: Listed, value: Option<&str>) -> Result<Option<Listed>, Misuse>
-        ensures { IsAnswer (λ waits. (option_map known waits, told_of self.new))
-            (option_taken (known option) (option_copied value.entry)
+    pub fn begin(&mut self, option: Listed, value: Option<&str>) -> Result<Option<Waiting>, Misuse>
+        ensures { IsAnswer (λ waits. (option_map (λ w. w.valued) waits, told_of self.new))
+            (option_taken option.choice (option_copied value.entry)
             (of_option (known option) (told_of self.old))) result }
     {
+        let name = option.name;
         if option.is_of_fields {
-            self.of_fields = Some(option.name);
+            self.of_fields = Some(name);
         }
-        match (option.value, value) {
-            (Some(_), None) => return Ok(Some(option)),
-            (Some(_), Some(value)) => self.set(&option, value)?,
-            (None, None) => self.set_flag(option.choice),
-            (None, Some(_)) => return Err(self.takes_no_value(&option)),
+        match (option.choice, value) {
+            (Choice::Flag(flag), None) => self.set_flag(flag),
+            (Choice::Flag(_), Some(_)) => {
+                return Err(said(format!(in self.alloc; "{name}: takes no value")));
+            }
+            (Choice::Valued(valued), None) => return Ok(Some(Waiting { name, valued })),
+            (Choice::Valued(valued), Some(value)) => self.set(Waiting { name, valued }, value)?,
         }
         Ok(None)
     }
 
     /// Takes an option without a value.
-    fn set_flag(&mut self, choice: Choice)
-        ensures { told_of self.new ≡ switched choice (told_of self.old) }
+    fn set_flag(&mut self, flag: Flag)
+        ensures { told_of self.new ≡ switched flag (told_of self.old) }
     {
         let request = &mut self.wanted.request;
-        match choice {
-            Choice::Csv => self.kind = Some(Kind::Csv),
-            Choice::Tsv => self.kind = Some(Kind::Tsv),
-            Choice::Json => self.kind = Some(Kind::Json),
-            Choice::Script => self.kind = Some(Kind::Script),
-            Choice::Header => request.has_head = true,
-            Choice::NoHeader => request.has_head = false,
-            Choice::Hide => request.hides = true,
-            Choice::OneLine => request.reading.one_line = true,
-            Choice::Raw => request.reading.raw = true,
-            Choice::Strict => request.reading.strict = true,
-            Choice::Least => request.sizing = Sizing::Least,
-            Choice::Witness => self.wanted.witness = true,
-            Choice::HelpJson => self.wanted.explains_json = true,
-            Choice::FitCrossings => self.fits = true,
-            _ => {}
+        match flag {
+            Flag::Kind(kind) => self.kind = Some(kind),
+            Flag::Head(has_head) => request.has_head = has_head,
+            Flag::Hide => request.hides = true,
+            Flag::OneLine => request.reading.one_line = true,
+            Flag::Raw => request.reading.raw = true,
+            Flag::Strict => request.reading.strict = true,
+            Flag::Least => request.sizing = Sizing::Least,
+            Flag::Witness => self.wanted.witness = true,
+            Flag::FitCrossings => self.fits = true,
+            Flag::HelpJson => self.wanted.explains_json = true,
         }
     }
 
     /// Takes the value of an option, or says why it is none.
-    pub fn set(&mut self, option: &Listed, value: &str) -> Result<(), Misuse>
+    pub fn set(&mut self, option: Waiting, value: &str) -> Result<(), Misuse>
         ensures { IsAnswer (λ _. told_of self.new)
-            (value_taken option.now.choice value.now (told_of self.old)) result }
+            (value_taken option.valued value.now (told_of self.old)) result }
     {
-        if self.takes(option.choice, value)? {
+        if self.takes(option.valued, value)? {
             return Ok(());
         }
         Err(said(no_value(self.alloc, option, value)))
     }
 
     /// Takes the value of an option; false where it has another form.
-    fn takes(&mut self, choice: Choice, value: &str) -> Result<bool, AllocError>
-        ensures { IfOk result (λ taken. valued_told choice value.now (told_of self.old)
+    fn takes(&mut self, valued: Valued, value: &str) -> Result<bool, AllocError>
+        ensures { IfOk result (λ taken. valued_told valued value.now (told_of self.old)
             ≡ (if taken then Some (told_of self.new) else None)) }
     {
-        match choice {
-            Choice::Align => return self.align(value),
-            Choice::Span => match span_of(value) {
-                Some(span) => self.wanted.request.spans.push(span)?,
-                None => return Ok(false),
-            },
-            Choice::Check => self.wanted.check = Some(String::from_str(self.alloc, value)?),
-            Choice::Style => match style_named(value) {
-                Some(style) => self.style = style,
-                None => return Ok(false),
-            },
-            Choice::Valign => match vertical_of(value) {
-                Some(vertical) => self.wanted.request.vertical = vertical,
-                None => return Ok(false),
-            },
-            Choice::Pad => {
-                self.pad = padding_of(value);
-                return Ok(self.pad.is_some());
-            }
-            Choice::Delimiter => {
-                self.delimiter = delimiter_of(value);
-                return Ok(self.delimiter.is_some());
-            }
-            Choice::Width => {
-                self.wanted.width = width_of(value);
-                return Ok(self.wanted.width.is_some());
-            }
-            _ => return Ok(self.takes_number(choice, number(value))),
-        }
-        Ok(true)
-    }
-
-    /// Takes the number of an option, if it is one.
-    fn takes_number(&mut self, choice: Choice, number: Option<usize>) -> bool
-        ensures { number_taken choice number (told_of self.old)
-            ≡ (if result then Some (told_of self.new) else None) }
-    {
         let request = &mut self.wanted.request;
-        match choice {
-            Choice::MaxWidth => request.max_width = number,
-            Choice::Cut => request.cut = number,
-            Choice::Tab => request.reading.tab = number,
-            _ => return false,
-        }
-        number.is_some()
+        Ok(match valued {
+            Valued::Align => return self.align(value),
+            Valued::Span => match span_of(value) {
+                Some(span) => {
+                    request.spans.push(span)?;
+                    true
+                }
+                None => false,
+            },
+            Valued::Check => {
+                self.wanted.check = Some(String::from_str(self.alloc, value)?);
+                true
+            }
+            Valued::Style => put(&mut self.style, style_named(value)),
+            Valued::Valign => put(&mut request.vertical, vertical_of(value)),
+            Valued::Pad => put(&mut self.pad, padding_of(value).map(Some)),
+            Valued::Delimiter => put(&mut self.delimiter, delimiter_of(value).map(Some)),
+            Valued::Width => put(&mut self.wanted.width, width_of(value).map(Some)),
+            Valued::MaxWidth => put(&mut request.max_width, number(value).map(Some)),
+            Valued::Cut => put(&mut request.cut, number(value).map(Some)),
+            Valued::Tab => put(&mut request.reading.tab, number(value).map(Some)),
+        })
     }
 
     /// Takes an alignment, of all cells or of a column.
@@ -267,20 +243,26 @@ impl Chosen {
     }
 
     /// What is said of an option that is the last word, and has no value.
-    pub fn lacks_value(&self, option: &Listed) -> Misuse
+    pub fn lacks_value(&self, option: Waiting) -> Misuse
         ensures { IsSaid result }
     {
         let name = option.name;
-        let value = option.value.unwrap_or("a value");
-        said(format!(in self.alloc; "{name}: no value follows; it takes {value}"))
+        let form = option.valued.form();
+        said(format!(in self.alloc; "{name}: no value follows; it takes {form}"))
     }
+}
 
-    /// What is said of an option that stands with a value in one word, and takes none.
-    fn takes_no_value(&self, option: &Listed) -> Misuse
-        ensures { IsSaid result }
-    {
-        let name = option.name;
-        said(format!(in self.alloc; "{name}: takes no value"))
+/// Puts a value, where there is one; false where there is none.
+fn put<T: Copy>(place: &mut T, value: Option<T>) -> bool
+    ensures new { place.new ≡ unwrap_or value place.old }
+    ensures given { result ≡ is_some value }
+{
+    match value {
+        Some(value) => {
+            *place = value;
+            true
+        }
+        None => false,
     }
 }
 
@@ -295,18 +277,18 @@ fn said(text: Result<String, AllocError>) -> Misuse
 }
 
 /// What is said of a word that is no value of the option.
-fn no_value(alloc: Global, option: &Listed, word: &str) -> Result<String, AllocError> {
+fn no_value(alloc: Global, option: Waiting, word: &str) -> Result<String, AllocError> {
     let name = option.name;
-    let takes = option.value.unwrap_or("a value");
+    let form = option.valued.form();
     let last = match word.rsplit_once('=') {
         Some((_, last)) => last,
         None => word,
     };
-    let like = name_like(alloc, last, values_of(option.choice))?;
+    let like = name_like(alloc, last, option.valued.names())?;
     let written = shown(alloc, word)?;
     match like {
-        Some(like) => format!(in alloc; "{name} {written}: not {takes}; did you mean {like}?"),
-        None => format!(in alloc; "{name} {written}: not {takes}"),
+        Some(like) => format!(in alloc; "{name} {written}: not {form}; did you mean {like}?"),
+        None => format!(in alloc; "{name} {written}: not {form}"),
     }
 }
 

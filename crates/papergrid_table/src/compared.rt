@@ -1,76 +1,81 @@
-//! A picture that is compared with what would be written.
+//! A picture that is compared with the table of an input.
 
+ghost use Rattle.std.specs.Prelude.{◌≡◌, ◌↔◌, ℕ, IfOk, List, None, OnOk, false};
+ghost use Rattle.papergrid_script.specs.Inputs.{IsWholeInput};
+ghost use Rattle.papergrid_table.specs.Pictures.{IsRunOf};
+
+use crate::arguments::Wanted;
+use crate::picture::{End, run_input};
 use crate::places::spot_after;
-use std::io;
-use std::io::Write;
+use papergrid::{ByteSink, RunFault, Source};
+use std::alloc::Global;
 
-/// A writer that compares what it is given with a picture.
-#[derive(Drop)]
-pub struct Compared<'p> {
-    picture: &'p [u8],
-    /// How many bytes at its front were the same.
-    same: usize,
-    /// Whether another byte was given than the one that follows these.
-    differs: bool,
+/// Where a picture differs from a table: the line and the character of the line, both counted from 1.
+#[derive(Clone, Copy)]
+pub struct Difference {
+    pub line: usize,
+    pub column: usize,
 }
 
-impl<'p> Compared<'p> {
-    /// Nothing was given yet.
-    pub fn new(picture: &'p [u8]) -> Compared<'p> {
-        Compared {
-            picture,
-            same: 0,
-            differs: false,
-        }
+/// Draws the table of the input that is read, keeps the input, and tells how that ended and where the picture differs first.
+pub fn compare<S: Source>(
+    alloc: Global,
+    wanted: &mut Wanted,
+    reader: &mut S,
+    picture: &[u8],
+    input: &mut Vec<u8>,
+) -> Result<(End, Option<Difference>), RunFault>
+    requires reader { S.has_failed reader.old ≡ false }
+    ensures compared { IfOk result (λ compared. (table : List ℕ)
+        × IsRunOf wanted.old.kind wanted.old wanted.new.request.cut input.new.items compared.0 table
+        × ((compared.1 ≡ None) ↔ (picture.now ≡ table))) }
+    ensures read { OnOk result (IsWholeInput (S.remaining reader.old) (S.remaining reader.new)
+        input.new.items) }
+{
+    let mut table = ByteSink::new(alloc);
+    match run_input(alloc, wanted, reader, &mut table, input) {
+        Ok(end) => Ok((end, first_difference(picture, &table.into_bytes()))),
+        // Only an allocation fails there.
+        Err(RunFault::Write) => Err(RunFault::Memory),
+        Err(fault) => Err(fault),
     }
+}
 
-    /// The line and the character of the line, both counted from 1, where the picture differs first, if it does.
-    pub fn difference(&self) -> Option<(usize, usize)> {
-        if !self.differs && self.same >= self.picture.len() {
-            return None;
-        }
-        let spot = spot_after(self.picture, self.same);
-        let begun = self.picture.get(..self.same).unwrap_or(self.picture);
-        let line = begun.len().saturating_sub(spot.byte.saturating_sub(1));
-        let heads = begun
-            .get(line..)
-            .unwrap_or(&[])
-            .iter()
-            .filter(|byte| !is_inner(**byte))
-            .count();
-        // Amid a character the one that differs has begun.
-        let is_amid = self
-            .picture
-            .get(self.same)
-            .is_some_and(|byte| is_inner(*byte));
-        let column = if is_amid {
-            heads
+/// Where the picture differs first from the table, if it does.
+fn first_difference(picture: &[u8], table: &[u8]) -> Option<Difference>
+    ensures { (result ≡ None) ↔ (picture.now ≡ table.now) }
+{
+    if picture == table {
+        return None;
+    }
+    Some(place_after(picture, common(picture, table)))
+}
+
+/// Where the byte after so many stands, or the character that it is amid.
+fn place_after(picture: &[u8], count: usize) -> Difference {
+    let spot = spot_after(picture, count);
+    let before = picture.get(..count).unwrap_or(picture);
+    let line = before.len().saturating_sub(spot.byte.saturating_sub(1));
+    let begun = before
+        .get(line..)
+        .unwrap_or(&[])
+        .iter()
+        .filter(|byte| !is_inner(**byte))
+        .count();
+    let is_amid = picture.get(count).is_some_and(|byte| is_inner(*byte));
+    Difference {
+        line: spot.line,
+        column: if is_amid {
+            begun
         } else {
-            heads.saturating_add(1)
-        };
-        Some((spot.line, column))
+            begun.saturating_add(1)
+        },
     }
 }
 
 /// Whether a byte of UTF-8 begins no character.
 fn is_inner(byte: u8) -> bool {
     byte & 0xc0 == 0x80
-}
-
-impl Write for Compared<'_> {
-    fn write(&mut self, piece: &[u8]) -> io::Result<usize> {
-        if !self.differs {
-            let rest = self.picture.get(self.same..).unwrap_or(&[]);
-            let count = common(rest, piece);
-            self.same = self.same.saturating_add(count);
-            self.differs = count < piece.len();
-        }
-        Ok(piece.len())
-    }
-
-    fn flush(&mut self) -> io::Result<()> {
-        Ok(())
-    }
 }
 
 /// How many bytes at the front are the same.

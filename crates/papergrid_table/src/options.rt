@@ -1,71 +1,88 @@
 //! The options, and what each is followed by.
 
-ghost use Rattle.std.specs.Prelude.{◌≡◌, is_some, map, option_copied, option_map};
-ghost use Rattle.papergrid_table.specs.Options.{known, option_named, option_told, options};
+ghost use Rattle.std.specs.Prelude.{◌≡◌, map, option_copied, option_map};
+ghost use Rattle.papergrid_table.specs.Options.{known, of_fields, of_inputs, option_named, option_told, options};
 
+use crate::arguments::Kind;
 use crate::styles::STYLES;
 use papergrid_script::program::split_at_byte;
 
-/// What an option is about.
+/// What an option tells.
 #[derive(Clone, Copy)]
 pub enum Choice {
-    Csv,
-    Tsv,
-    Json,
-    Script,
+    /// By itself.
+    Flag(Flag),
+    /// By its value, in the same word or in the next one.
+    Valued(Valued),
+}
+
+/// What an option tells that has no value.
+#[derive(Clone, Copy)]
+pub enum Flag {
+    /// What the input is.
+    Kind(Kind),
+    /// Whether the first row is a head.
+    Head(bool),
+    Hide,
+    OneLine,
+    Raw,
+    Strict,
+    Least,
+    Witness,
+    FitCrossings,
+    HelpJson,
+}
+
+/// What an option is about that has a value.
+#[derive(Clone, Copy)]
+pub enum Valued {
     Delimiter,
     Style,
-    Header,
-    NoHeader,
     Align,
     Valign,
     Pad,
     Span,
-    Hide,
     MaxWidth,
     Width,
     Cut,
     Tab,
-    OneLine,
-    Raw,
-    Least,
-    Witness,
     Check,
-    Strict,
-    FitCrossings,
-    HelpJson,
 }
 
 /// An option.
 #[derive(Clone, Copy)]
 pub struct Listed {
-    pub choice: Choice,
     pub name: &'static str,
-    /// What its value is, if it has one.
-    pub value: Option<&'static str>,
+    pub choice: Choice,
     /// Whether it is for CSV and TSV alone.
     pub is_of_fields: bool,
 }
 
-/// An option of this name.
-fn option(
-    choice: Choice,
-    name: &'static str,
-    value: Option<&'static str>,
-    is_of_fields: bool,
-) -> Listed
-    ensures { known result ≡ record {
-      name = name.now;
-      choice = choice;
-      takes_value = is_some value.entry;
-      is_of_fields = is_of_fields;
-    } }
+/// An option whose value is the next word.
+#[derive(Clone, Copy)]
+pub struct Waiting {
+    pub name: &'static str,
+    pub valued: Valued,
+}
+
+/// An option for each input.
+fn of_inputs(choice: Choice, name: &'static str) -> Listed
+    ensures { known result ≡ of_inputs choice name.now }
 {
     Listed {
-        choice,
         name,
-        value,
-        is_of_fields,
+        choice,
+        is_of_fields: false,
+    }
+}
+
+/// An option for CSV and TSV alone.
+fn of_fields(choice: Choice, name: &'static str) -> Listed
+    ensures { known result ≡ of_fields (of_inputs choice name.now) }
+{
+    Listed {
+        is_of_fields: true,
+        ..of_inputs(choice, name)
     }
 }
 
@@ -73,47 +90,33 @@ fn option(
 fn options() -> [Listed; 25]
     ensures { map known result ≡ options }
 {
+    use Choice::{Flag as F, Valued as V};
     [
-        option(Choice::Csv, "--csv", None, false),
-        option(Choice::Tsv, "--tsv", None, false),
-        option(Choice::Json, "--json", None, false),
-        option(Choice::Script, "--script", None, false),
-        option(
-            Choice::Delimiter,
-            "--delimiter",
-            Some("one character of ASCII, or tab"),
-            true,
-        ),
-        option(Choice::Style, "--style", Some("a style"), true),
-        option(Choice::Header, "--header", None, true),
-        option(Choice::NoHeader, "--no-header", None, true),
-        option(Choice::Align, "--align", Some("an alignment"), true),
-        option(
-            Choice::Valign,
-            "--valign",
-            Some("top, center or bottom"),
-            true,
-        ),
-        option(Choice::Pad, "--pad", Some("N or L,R,T,B"), true),
-        option(Choice::Span, "--span", Some("R,C=N or R,C=MxN"), true),
-        option(Choice::Hide, "--hide", None, true),
-        option(Choice::MaxWidth, "--max-width", Some("a number"), true),
-        option(
-            Choice::Width,
-            "--width",
-            Some("a number from 1 to 1000"),
-            true,
-        ),
-        option(Choice::Cut, "--cut", Some("a number"), true),
-        option(Choice::Tab, "--tab", Some("a number"), true),
-        option(Choice::OneLine, "--one-line", None, true),
-        option(Choice::Raw, "--raw", None, true),
-        option(Choice::Least, "--least", None, false),
-        option(Choice::Witness, "--witness", None, false),
-        option(Choice::Check, "--check", Some("a file"), false),
-        option(Choice::Strict, "--strict", None, true),
-        option(Choice::FitCrossings, "--fit-crossings", None, true),
-        option(Choice::HelpJson, "--help-json", None, false),
+        of_inputs(F(Flag::Kind(Kind::Csv)), "--csv"),
+        of_inputs(F(Flag::Kind(Kind::Tsv)), "--tsv"),
+        of_inputs(F(Flag::Kind(Kind::Json)), "--json"),
+        of_inputs(F(Flag::Kind(Kind::Script)), "--script"),
+        of_fields(V(Valued::Delimiter), "--delimiter"),
+        of_fields(V(Valued::Style), "--style"),
+        of_fields(F(Flag::Head(true)), "--header"),
+        of_fields(F(Flag::Head(false)), "--no-header"),
+        of_fields(V(Valued::Align), "--align"),
+        of_fields(V(Valued::Valign), "--valign"),
+        of_fields(V(Valued::Pad), "--pad"),
+        of_fields(V(Valued::Span), "--span"),
+        of_fields(F(Flag::Hide), "--hide"),
+        of_fields(V(Valued::MaxWidth), "--max-width"),
+        of_fields(V(Valued::Width), "--width"),
+        of_fields(V(Valued::Cut), "--cut"),
+        of_fields(V(Valued::Tab), "--tab"),
+        of_fields(F(Flag::OneLine), "--one-line"),
+        of_fields(F(Flag::Raw), "--raw"),
+        of_inputs(F(Flag::Least), "--least"),
+        of_inputs(F(Flag::Witness), "--witness"),
+        of_inputs(V(Valued::Check), "--check"),
+        of_fields(F(Flag::Strict), "--strict"),
+        of_fields(F(Flag::FitCrossings), "--fit-crossings"),
+        of_inputs(F(Flag::HelpJson), "--help-json"),
     ]
 }
 
@@ -151,12 +154,29 @@ fn option_named(name: &str) -> Option<Listed>
     None
 }
 
-/// The names that the value of an option is one of, if there are such.
-pub fn values_of(choice: Choice) -> &'static [&'static str] {
-    match choice {
-        Choice::Style => &STYLES,
-        Choice::Align => &["left", "center", "right", "auto"],
-        Choice::Valign => &["top", "center", "bottom"],
-        _ => &[],
+impl Valued {
+    /// What a value is.
+    pub fn form(self) -> &'static str {
+        match self {
+            Valued::Delimiter => "one character of ASCII, or tab",
+            Valued::Style => "a style",
+            Valued::Align => "an alignment",
+            Valued::Valign => "top, center or bottom",
+            Valued::Pad => "N or L,R,T,B",
+            Valued::Span => "R,C=N or R,C=MxN",
+            Valued::Width => "a number from 1 to 1000",
+            Valued::MaxWidth | Valued::Cut | Valued::Tab => "a number",
+            Valued::Check => "a file",
+        }
+    }
+
+    /// The names that a value is one of, if there are such.
+    pub fn names(self) -> &'static [&'static str] {
+        match self {
+            Valued::Style => &STYLES,
+            Valued::Align => &["left", "center", "right", "auto"],
+            Valued::Valign => &["top", "center", "bottom"],
+            _ => &[],
+        }
     }
 }

@@ -1,11 +1,11 @@
 //! A run: the table of an input drawn, or compared, and what keeps it from being drawn.
 
-ghost use Rattle.std.specs.Prelude.{◌≡◌, ◌⊎◌, nat_eq};
+ghost use Rattle.std.specs.Prelude.{◌&&◌, ◌≡◌, ◌⊎◌, if◌then◌else◌, is_some, nat_eq};
 ghost use Rattle.std.specs.Process.{exit_status};
 ghost use Rattle.papergrid_table.specs.Statuses.{end_status};
 
 use crate::arguments::Wanted;
-use crate::compared::Compared;
+use crate::compared::{Difference, compare};
 use crate::document::{DocumentEnd, said_of_document};
 use crate::messages::message_of as message_of_text;
 use crate::picture::{End, run_input};
@@ -96,24 +96,17 @@ fn compared<R: Read + Drop>(
         Ok(picture) => picture,
         Err(code) => return code,
     };
-    let reader = Watched {
+    let mut source = ReadSource::new(Watched {
         inner: reader,
         progress,
-    };
-    let mut comparing = Compared::new(&picture.bytes);
+    });
     let mut input = Vec::new(rt.alloc());
-    let mut source = ReadSource::new(reader);
-    let mut sink = WriteSink::new(&mut comparing);
-    let end = run_input(rt.alloc(), wanted, &mut source, &mut sink, &mut input);
+    let compared = compare(rt.alloc(), wanted, &mut source, &picture.bytes, &mut input);
     progress.end();
-    match end {
-        Ok(end) => {
+    match compared {
+        Ok((end, difference)) => {
             let code = ended(rt, wanted, name, &input, end);
-            if is_drawn(end) {
-                judged(rt, code, name, picture.name.as_str(), &comparing)
-            } else {
-                code
-            }
+            judged(rt, code, (name, picture.name.as_str()), end, difference)
         }
         Err(reason) => fault(rt, name, reason, false),
     }
@@ -138,24 +131,27 @@ fn picture_at(rt: &HostRuntime, name: &str, path: &str) -> Result<Picture, ExitC
     }
 }
 
-/// Says where the picture of this name differs from the table of the other, if it does. Else the status stays.
+/// Says where the picture of the second name differs from the table of the first, if it does. Else the status stays.
 fn judged(
     rt: &HostRuntime,
     code: ExitCode,
-    name: &str,
-    picture: &str,
-    comparing: &Compared<'_>,
+    names: (&str, &str),
+    end: End,
+    difference: Option<Difference>,
 ) -> ExitCode
-    ensures { (result ≡ code) ⊎ (exit_status result ≡ 1) }
+    // An input that has no table differs from no picture.
+    ensures { exit_status result ≡ (if nat_eq (end_status end) 0 && is_some difference then 1
+        else exit_status code) }
 {
-    match comparing.difference() {
-        None => code,
-        Some((line, column)) => {
+    let (name, picture) = names;
+    match difference {
+        Some(Difference { line, column }) if is_drawn(end) => {
             let _ = eprintln!(rt;
                 "{picture}: line {line}, column {column}: differs from the table of {name} (--check)"
             );
             ExitCode::from(1)
         }
+        _ => code,
     }
 }
 

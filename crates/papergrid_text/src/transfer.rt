@@ -1,10 +1,11 @@
 //! Readers and writers that tell their bytes, and whether they have failed.
 
-ghost use Rattle.std.specs.Prelude.{◌≡◌, ◌⊎◌, ℕ, List, Bool, OnErr, OnOk, Option, false, take, true};
+ghost use Rattle.std.specs.Prelude.{◌≡◌, ◌⊎◌, ℕ, [], List, Bool, OnErr, OnOk, Option, false, take, true};
 ghost use Rattle.std.specs.Io.{ReadsAtMost, WritesAtMost};
 ghost use Rattle.std.specs.Io.KnownBytes.{Appends, ReadConsumes, WriteAppends};
 ghost use Rattle.papergrid_text.specs.Transfer.{failed_after, stalled_after};
 
+use std::alloc::Global;
 use std::io::{Read, Write};
 
 /// A read or a write failed. It read and took nothing.
@@ -127,6 +128,54 @@ impl<W: Write> Sink for WriteSink<W> {
                 }
                 Ok(count)
             }
+            Err(_) => {
+                self.failed = true;
+                Err(Failed)
+            }
+        }
+    }
+}
+
+/// A [`Sink`] that keeps all its bytes. A write fails where its growth is refused.
+#[derive(Debug, Drop)]
+pub struct ByteSink {
+    bytes: Vec<u8>,
+    failed: bool,
+}
+
+impl ByteSink {
+    /// A sink with no bytes, which has not failed.
+    pub fn new(alloc: Global) -> ByteSink
+        ensures bytes { result.bytes.items ≡ [] }
+        ensures works { result.failed ≡ false }
+    {
+        ByteSink {
+            bytes: Vec::new(alloc),
+            failed: false,
+        }
+    }
+
+    /// The bytes that were taken.
+    pub fn into_bytes(self) -> Vec<u8>
+        ensures { result ≡ self.bytes }
+    {
+        let ByteSink { bytes, failed: _ } = self;
+        bytes
+    }
+}
+
+impl Sink for ByteSink {
+    ghost use Rattle.std.specs.Prelude.{Some};
+
+    ghost contents = { λ s. Some s.bytes.items };
+
+    ghost has_failed = { λ s. s.failed };
+
+    ghost has_stalled = { λ _. false };
+
+    fn write(&mut self, piece: &[u8]) -> Result<usize, Failed> {
+        match self.bytes.extend_from_slice(piece) {
+            Ok(()) => Ok(piece.len()),
             Err(_) => {
                 self.failed = true;
                 Err(Failed)

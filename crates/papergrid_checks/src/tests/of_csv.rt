@@ -1,7 +1,6 @@
 //! Tables of CSV texts in frames of a caller's own. All others are cases of `papergrid_table`.
 
-use crate::csv_tables::csv_table;
-use papergrid::WriteSink;
+use crate::csv_tables::csv_table_in_memory;
 use papergrid::config::Position;
 use papergrid::grid::Junctions;
 use papergrid_csv::{Alignment, CsvEnd, Request, Span, Style};
@@ -9,9 +8,10 @@ use std::alloc::{AllocError, Global};
 
 /// Whether a text is drawn so by a request.
 fn is_drawn(alloc: Global, request: &Request, text: &[u8], picture: &str) -> bool {
-    let mut written = Vec::new(alloc);
-    let ended = csv_table(alloc, request, text, &mut WriteSink::new(&mut written));
-    ended == Ok(CsvEnd::Drawn) && written.as_slice() == picture.as_bytes()
+    match csv_table_in_memory(alloc, request, text) {
+        Ok((CsvEnd::Drawn, written)) => written.as_slice() == picture.as_bytes(),
+        _ => false,
+    }
 }
 
 /// A span over two columns, with lines between all rows and crossings that fit it.

@@ -1,5 +1,5 @@
 -- What drafts tell, and how steps end.
-use Rattle.std.specs.Prelude.{◌≡◌, ℕ, Bool, true, false, Option, Some, None, Result, Ok, Err, is_some, map, option_map, string_bytes, unwrap_or, ⊤}
+use Rattle.std.specs.Prelude.{◌≡◌, ℕ, Bool, true, false, Option, Result, Ok, Err, is_some, map, option_map, string_bytes, unwrap_or, ⊤}
 use Rattle.papergrid_values.specs.declared.sides.Sides.{Sides}
 use Rattle.papergrid_script.specs.Settings.{spaced_sides}
 use Rattle.papergrid_draw.specs.declared.error.DrawError.{DrawError}
@@ -14,13 +14,10 @@ use Rattle.papergrid_csv.specs.declared.request.Request.{Request}
 use Rattle.papergrid_csv.specs.declared.style.Style.{Style}
 use Rattle.papergrid_table.specs.Arguments.{AreFitting, IsMisuseOf, WordsSaid, OptionsTold, column_told}
 use Rattle.papergrid_table.specs.Values.{left_and_right}
-use Rattle.papergrid_table.specs.Options.{known}
 use Rattle.papergrid_table.specs.declared.arguments.Draft.{Draft}
 use Rattle.papergrid_table.specs.declared.arguments.Misuse.{Misuse}
 use Rattle.papergrid_table.specs.declared.arguments.Misuse.TheVariants as misuses
 use Rattle.papergrid_table.specs.declared.chosen.Chosen.{Chosen}
-use Rattle.papergrid_table.specs.declared.options.Choice.{Choice}
-use Rattle.papergrid_table.specs.declared.options.Choice.TheVariants as choices
 
 -- what options told that are chosen so
 abbrev pub told_of : Chosen → OptionsTold
@@ -55,16 +52,9 @@ abbrev pub said_of : Draft → WordsSaid
 said_of draft = record {
   takes_options = draft.takes_options;
   asked = draft.asked;
-  waits = option_map known draft.waits;
+  waits = option_map (λ w. w.valued) draft.waits;
   told = told_of draft.chosen;
 }
-
--- what a number tells of an option, where there is one
-abbrev pub number_taken : Choice → Option ℕ → OptionsTold → Option OptionsTold
-number_taken choices.MaxWidth number told = option_map (λ n. record told { max_width = Some n }) number
-number_taken choices.Cut number told = option_map (λ n. record told { cut = Some n }) number
-number_taken choices.Tab number told = option_map (λ n. record told { tab = Some n }) number
-number_taken choice number told = None
 
 -- ---- how a step ends
 

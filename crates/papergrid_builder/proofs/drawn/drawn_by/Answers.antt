@@ -29,7 +29,7 @@ returns-in-Ok-clause-ok c =
     let columns = ap (λ r. r.count_columns) c.new-records.ensures ∙ c.longest_of-columns.ensures in
     let is = drawing-told (λ cell. cell.now) (λ text. text.now) (λ row. row.now) c.args.config.now c.args.sizing columns rows c.in_ok-table.table c.in_ok-table.ensures c.args.rows.now refl in
     let written = c.in-Ok.ensures.picture.bytes_are in
-    (_, is, rw c.new-sink.ensures at written)
+    (_, is, ap (λ v. v.items) c.into_bytes.ensures ∙ (rw c.new-sink.ensures.bytes at written))
 
 pub refusal-requires : goal.refusal-requires
 refusal-requires c =
