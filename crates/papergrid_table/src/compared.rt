@@ -1,8 +1,9 @@
 //! A picture that is compared with the table of an input.
 
-ghost use Rattle.std.specs.Prelude.{◌≡◌, ◌↔◌, ℕ, IfOk, List, None, OnOk, false};
+ghost use Rattle.std.specs.Prelude.{◌≡◌, ◌↔◌, ℕ, IfErr, IfOk, List, None, OnOk, false};
 ghost use Rattle.papergrid_script.specs.Inputs.{IsWholeInput};
 ghost use Rattle.papergrid_table.specs.Pictures.{IsRunOf};
+ghost use Rattle.papergrid_table.specs.ForProofs.Drafts.{IsReadOrMemory};
 
 use crate::arguments::Wanted;
 use crate::picture::{End, run_input};
@@ -31,6 +32,7 @@ pub fn compare<S: Source>(
         × ((compared.1 ≡ None) ↔ (picture.now ≡ table))) }
     ensures read { OnOk result (IsWholeInput (S.remaining reader.old) (S.remaining reader.new)
         input.new.items) }
+    ensures fault { IfErr result (IsReadOrMemory (S.has_failed reader.new)) }
 {
     let mut table = ByteSink::new(alloc);
     match run_input(alloc, wanted, reader, &mut table, input) {

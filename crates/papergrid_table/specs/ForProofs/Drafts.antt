@@ -91,3 +91,9 @@ document_end (Ok drawn) = Ok documents.Drawn
 document_end (Err (draw_errors.Memory e)) = Err run_faults.Memory
 document_end (Err draw_errors.Write) = Err run_faults.Write
 document_end (Err e) = Ok (documents.Refused e)
+
+-- a fault of a reader that failed, or of memory where it did not
+abbrev pub IsReadOrMemory : Bool → RunFault → Type 0
+IsReadOrMemory failed run_faults.Read = failed ≡ true
+IsReadOrMemory failed run_faults.Memory = failed ≡ false
+IsReadOrMemory failed run_faults.Write = ⊥
