@@ -8,7 +8,7 @@ ghost use Rattle.papergrid_table.specs.Options.{option_told};
 ghost use Rattle.papergrid_table.specs.ForProofs.Drafts.{IsAnswer, said_of};
 
 use crate::chosen::Chosen;
-use crate::options::{Waiting, option_of};
+use crate::options::{ValuedOption, option_of};
 use papergrid_csv::Request;
 use papergrid_script::program::{Request as Asked, Unexpected, asked_by};
 use std::alloc::{AllocError, Global};
@@ -78,7 +78,7 @@ struct Draft {
     takes_options: bool,
     asked: Option<Asked>,
     /// The option whose value is the next word.
-    waits: Option<Waiting>,
+    waits: Option<ValuedOption>,
     chosen: Chosen,
 }
 

@@ -12,7 +12,7 @@ ghost use Rattle.papergrid_table.specs.Values.{alignment_named};
 ghost use Rattle.papergrid_table.specs.ForProofs.Drafts.{IsAnswer, IsDrawnIn, IsJudged, IsSaid, told_of};
 
 use crate::arguments::{Kind, Misuse, Wanted};
-use crate::options::{Choice, Flag, Listed, Valued, Waiting};
+use crate::options::{Choice, Flag, Listed, Valued, ValuedOption};
 use crate::styles::{name_of, style_named};
 use crate::values::{
     alignment_of, column_alignment, delimiter_of, padding, padding_of, span_of, vertical_of,
@@ -80,7 +80,11 @@ impl Chosen {
     }
 
     /// Takes an option, and its value where it stands in the same word; and tells the option if it wants one.
-    pub fn begin(&mut self, option: Listed, value: Option<&str>) -> Result<Option<Waiting>, Misuse>
+    pub fn begin(
+        &mut self,
+        option: Listed,
+        value: Option<&str>,
+    ) -> Result<Option<ValuedOption>, Misuse>
         ensures { IsAnswer (λ waits. (option_map (λ w. w.valued) waits, told_of self.new))
             (option_taken option.choice (option_copied value.entry)
             (of_option (known option) (told_of self.old))) result }
@@ -94,8 +98,11 @@ impl Chosen {
             (Choice::Flag(_), Some(_)) => {
                 return Err(said(format!(in self.alloc; "{name}: takes no value")));
             }
-            (Choice::Valued(valued), None) => return Ok(Some(Waiting { name, valued })),
-            (Choice::Valued(valued), Some(value)) => self.set(Waiting { name, valued }, value)?,
+            (Choice::Valued(valued), None) => return Ok(Some(ValuedOption { name, valued })),
+            (Choice::Valued(valued), Some(value)) => self.set(
+                ValuedOption { name, valued },
+                value,
+            )?,
         }
         Ok(None)
     }
@@ -120,7 +127,7 @@ impl Chosen {
     }
 
     /// Takes the value of an option, or says why it is none.
-    pub fn set(&mut self, option: Waiting, value: &str) -> Result<(), Misuse>
+    pub fn set(&mut self, option: ValuedOption, value: &str) -> Result<(), Misuse>
         ensures { IsAnswer (λ _. told_of self.new)
             (value_taken option.valued value.now (told_of self.old)) result }
     {
@@ -243,7 +250,7 @@ impl Chosen {
     }
 
     /// What is said of an option that is the last word, and has no value.
-    pub fn lacks_value(&self, option: Waiting) -> Misuse
+    pub fn lacks_value(&self, option: ValuedOption) -> Misuse
         ensures { IsSaid result }
     {
         let name = option.name;
@@ -277,7 +284,7 @@ fn said(text: Result<String, AllocError>) -> Misuse
 }
 
 /// What is said of a word that is no value of the option.
-fn no_value(alloc: Global, option: Waiting, word: &str) -> Result<String, AllocError> {
+fn no_value(alloc: Global, option: ValuedOption, word: &str) -> Result<String, AllocError> {
     let name = option.name;
     let form = option.valued.form();
     let last = match word.rsplit_once('=') {

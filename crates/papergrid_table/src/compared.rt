@@ -2,7 +2,7 @@
 
 ghost use Rattle.std.specs.Prelude.{◌≡◌, ◌↔◌, ℕ, IfErr, IfOk, List, None, OnOk, false};
 ghost use Rattle.papergrid_script.specs.Inputs.{IsWholeInput};
-ghost use Rattle.papergrid_table.specs.Pictures.{IsRunOf};
+ghost use Rattle.papergrid_table.specs.Pictures.{IsCutOf, IsRunOf};
 ghost use Rattle.papergrid_table.specs.ForProofs.Drafts.{IsReadOrMemory};
 
 use crate::arguments::Wanted;
@@ -32,6 +32,7 @@ pub fn compare<S: Source>(
         × ((compared.1 ≡ None) ↔ (picture.now ≡ table))) }
     ensures read { OnOk result (IsWholeInput (S.remaining reader.old) (S.remaining reader.new)
         input.new.items) }
+    ensures wanted { OnOk result (IsCutOf wanted.old.kind wanted.old wanted.new) }
     ensures fault { IfErr result (IsReadOrMemory (S.has_failed reader.new)) }
 {
     let mut table = ByteSink::new(alloc);

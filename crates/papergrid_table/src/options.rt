@@ -58,9 +58,9 @@ pub struct Listed {
     pub is_of_fields: bool,
 }
 
-/// An option whose value is the next word.
+/// An option that has a value.
 #[derive(Clone, Copy)]
-pub struct Waiting {
+pub struct ValuedOption {
     pub name: &'static str,
     pub valued: Valued,
 }
