@@ -1,18 +1,19 @@
 -- Which bytes of a text stand between quotes, by places and by the states of the machine that reads it.
-use Rattle.std.proofs.Common.{◌≡◌, ◌≢◌, ◌∙◌, ◌+◌, ◌<◌, ◌≤◌, ◌-◌, ◌^◌, ℕ, suc, List, [], ◌∷◌, ◌++◌, Bool, true, false, cond, not, ap, arith, drop, get_or, length, refl, subst, sym, take}
+use Rattle.std.proofs.Common.{inl, inr, ◌≡◌, ◌≢◌, ◌∙◌, ◌+◌, ◌<◌, ◌≤◌, ◌-◌, ◌^◌, ℕ, suc, List, [], ◌∷◌, ◌++◌, Bool, true, false, cond, not, ap, arith, drop, get_or, length, refl, subst, sym, take}
 use Rattle.std.specs.Prelude.{◌==◌, ◌||◌, ◌↔◌, IsTrue}
 use Rattle.std.specs.Cmp.Lexicographic.{pointwise}
 use Rattle.std.specs.List.{list_any, position_or_len}
 use Rattle.std.proofs.lemmas.List.{drop_more, length-drop, length-take, take-append-drop, take_all, take_more}
 use Rattle.std.proofs.lemmas.List.Sums.{passes_at_first}
+use Rattle.std.proofs.lemmas.Bool.{cases_lt}
 use Rattle.std.proofs.lemmas.Bool.Decides.{nat_tests}
 use Rattle.csv.specs.Machine.{step}
 use Rattle.csv.specs.Reading.{strip_bom}
 use Rattle.csv.specs.declared.parser.Config.{Config}
 use Rattle.csv.specs.declared.parser.State.{State}
 use Rattle.csv.specs.declared.parser.State.TheVariants as states
-use Rattle.papergrid_csv.specs.Rows.{IsUnclosed, config_by, state_after}
-use Rattle.papergrid_csv.specs.ForProofs.Places.{place_after, place_behind, plain_place}
+use Rattle.papergrid_csv.specs.Rows.{IsUnclosed, IsUnclosedFrom, config_by, config_of, is_quoted, state_after}
+use Rattle.papergrid_csv.specs.ForProofs.Places.{IsLastOutside, is_between, place_after, place_behind, plain_place}
 use Rattle.papergrid_csv.specs.declared.quotes.Place.{Place}
 use Rattle.papergrid_csv.specs.declared.quotes.Place.TheVariants.{Field, Quote, Quoted, Start}
 use Rattle.papergrid_csv.specs.declared.reading.Format.{Format}
@@ -77,6 +78,22 @@ module _ (delimiter : ℕ) where
         (λ is. sym all.0 ∙ ap place_of is),
       )
 
+  same-quoted : (s : State) → IsUsual s → is_quoted s ≡ is_between (place_of s)
+  same-quoted states.StartRecord usual = refl
+  same-quoted states.StartField usual = refl
+  same-quoted states.InField usual = refl
+  same-quoted states.InQuoted usual = refl
+  same-quoted states.AfterQuote usual = refl
+  same-quoted states.InEscape usual = absurd (usual.0 refl)
+  same-quoted states.InComment usual = refl
+  same-quoted states.AfterCr usual = refl
+
+  -- it ends between quotes, or behind one, by both
+  quoted-alike : (bytes : List ℕ) → is_quoted (state_after config states.StartRecord bytes) ≡ is_between (place_behind delimiter Start bytes)
+  quoted-alike bytes =
+      let all = all-steps states.StartRecord bytes usual-start in
+      same-quoted (state_after config states.StartRecord bytes) all.1 ∙ ap is_between all.0
+
   -- ---- a text without quotes
 
   no-quote : (place : Place) (bytes : List ℕ) → list_any (λ b. b == 34) bytes ≡ false → place ≢ Quoted → place_behind delimiter place bytes ≢ Quoted
@@ -119,17 +136,42 @@ without-mark (a ∷ []) none = refl
 without-mark (a ∷ b ∷ []) none = refl
 without-mark (a ∷ b ∷ c ∷ more) none = grind (arith, nat_tests)
 
+pub short-unmarked : (input text : List ℕ) → text ≡ strip_bom input → length text ≤ length input
+unfolding strip_bom
+short-unmarked [] text is = rw is (omega arith)
+short-unmarked (a ∷ []) text is = rw is (omega arith)
+short-unmarked (a ∷ b ∷ []) text is = rw is (omega arith)
+short-unmarked (a ∷ b ∷ c ∷ rest) text is = grind (arith, nat_tests)
+
 -- ---- what is told
 
-pub tells-quoted : (reading : Reading) (delimiter : ℕ) (input text : List ℕ) (told : Bool) → reading.format ≡ Csv delimiter → text ≡ strip_bom input →
-    IsTrue told ↔ (place_behind delimiter Start text ≡ Quoted) → IsTrue told ↔ IsUnclosed reading input
-tells-quoted reading delimiter input text told is stripped tells =
-    let alike = ends-alike delimiter (strip_bom input) in
-    let by = λ (f : Format). state_after (config_by f) states.StartRecord (strip_bom input) ≡ states.InQuoted in
-    let at = λ (t : List ℕ). place_behind delimiter Start t ≡ Quoted in (
-      (λ yes. subst by (sym is) (alike.0 (subst at stripped (tells.0 yes)))),
-      (λ unclosed. tells.1 (subst at (sym stripped) (alike.1 (subst by is unclosed)))),
-    )
+-- by the places of a text without its mark, of a format with this byte between fields
+module _ (reading : Reading) (delimiter : ℕ) (input text : List ℕ) (is : reading.format ≡ Csv delimiter) (stripped : text ≡ strip_bom input) where
+  pub tells-quoted : (told : Bool) → IsTrue told ↔ (place_behind delimiter Start text ≡ Quoted) → IsTrue told ↔ IsUnclosed reading input
+  tells-quoted told tells =
+      let alike = ends-alike delimiter (strip_bom input) in
+      let by = λ (f : Format). state_after (config_by f) states.StartRecord (strip_bom input) ≡ states.InQuoted in
+      let at = λ (t : List ℕ). place_behind delimiter Start t ≡ Quoted in (
+        (λ yes. subst by (sym is) (alike.0 (subst at stripped (tells.0 yes)))),
+        (λ unclosed. tells.1 (subst at (sym stripped) (alike.1 (subst by is unclosed)))),
+      )
+
+  by-places : (k : ℕ) (v : Bool) → is_between (place_behind delimiter Start (take k text)) ≡ v →
+      is_quoted (state_after (config_of reading) states.StartRecord (take k (strip_bom input))) ≡ v
+  by-places k v so =
+      ap (λ f. is_quoted (state_after (config_by f) states.StartRecord (take k (strip_bom input)))) is
+      ∙ quoted-alike delimiter (take k (strip_bom input)) ∙ ap (λ t. is_between (place_behind delimiter Start (take k t))) (sym stripped) ∙ so
+
+  pub unclosed-from : (last count : ℕ) → length text ≤ length input → count ≡ (length input - length text) + last → IsUnclosed reading input → IsLastOutside delimiter text last → IsUnclosedFrom reading input count
+  unclosed-from last count shorter counted unclosed found =
+      let long : length text ≡ length (strip_bom input) = ap length stripped in
+      record {
+        unclosed = unclosed;
+        before = last;
+        mark = omega arith;
+        outside = by-places last false found.outside;
+        inside = λ k past within. by-places k true (found.inside k past (omega arith));
+      }
 
 -- ---- a text between tabs
 
@@ -166,6 +208,48 @@ place-more : (delimiter : ℕ) (place : Place) (bytes : List ℕ) (byte : ℕ) �
 unfolding place_behind
 place-more delimiter place [] byte = refl
 place-more delimiter place (b ∷ bytes) byte = place-more delimiter (place_after delimiter place b) bytes byte
+
+-- the place behind one more byte of a text
+pub place-next : (delimiter : ℕ) (text : List ℕ) (at : ℕ) (place : Place) → place ≡ place_behind delimiter Start (take at text) → at < length text →
+    place_after delimiter place (get_or text at 0) ≡ place_behind delimiter Start (take (at + 1) text)
+place-next delimiter text at place is within =
+    ap (λ p. place_after delimiter p (get_or text at 0)) is ∙ sym (place-more delimiter Start (take at text) (get_or text at 0)) ∙ sym (ap (place_behind delimiter Start) (take_more text at 0 within))
+
+-- ---- the last place outside of quotes
+
+module _ (delimiter : ℕ) (text : List ℕ) where
+  abbrev between-at : ℕ → Bool
+  between-at k = is_between (place_behind delimiter Start (take k text))
+
+  pub outside-first : between-at 0 ≡ false
+  unfolding place_behind
+  outside-first = refl
+
+  -- of one more byte, which stands at this place
+  module _ (place : Place) (at last next : ℕ) (is : place ≡ place_behind delimiter Start (take at text)) where
+    pub moves : is_between place ≡ false → next ≡ at → (between-at next ≡ false) × ((k : ℕ) → next < k → k < at + 1 → between-at k ≡ true)
+    moves outside moved = (ap between-at moved ∙ ap is_between (sym is) ∙ outside, λ k past within. absurd (omega arith))
+
+    pub stays : is_between place ≡ true → next ≡ last → between-at last ≡ false → ((k : ℕ) → last < k → k < at → between-at k ≡ true) →
+        (between-at next ≡ false) × ((k : ℕ) → next < k → k < at + 1 → between-at k ≡ true)
+    stays between kept outside inside = (
+      ap between-at kept ∙ outside,
+      λ k past within. elim (cases_lt k at) [
+        | inl before ↦ inside k (omega arith) before
+        | inr behind ↦ let same : k ≡ at = omega arith in ap between-at same ∙ ap is_between (sym is) ∙ between
+      ],
+    )
+
+  -- of a text that ends between quotes
+  pub last-of : (at last : ℕ) → place_behind delimiter Start text ≡ Quoted → length text ≤ at → between-at last ≡ false → ((k : ℕ) → last < k → k < at → between-at k ≡ true) →
+      IsLastOutside delimiter text last
+  last-of at last quoted long outside inside = record {
+    outside = outside;
+    inside = λ k past within. elim (cases_lt k (length text)) [
+      | inl before ↦ inside k past (omega arith)
+      | inr behind ↦ ap (λ t. is_between (place_behind delimiter Start t)) (take_all k text behind) ∙ ap is_between quoted
+    ];
+  }
 
 -- ---- from quote to quote
 

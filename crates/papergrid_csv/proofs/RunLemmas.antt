@@ -61,7 +61,7 @@ module _ {W : Type 0} (contents : W → Option (List ℕ)) (has_failed has_stall
   pub unread-run : (request : Request) (input : List ℕ) (w : W) (e : RowsError) → IsUnread request.reading input e →
       RunsCsv contents has_failed has_stalled (IsCsvRun request input) w w (end_unread e)
   unread-run request input w (rows_errors.NotText count) is = run-silent contents has_failed has_stalled (IsCsvRun request input) w (NotText count) (is, refl)
-  unread-run request input w rows_errors.Unclosed is = run-silent contents has_failed has_stalled (IsCsvRun request input) w Unclosed (is, refl)
+  unread-run request input w (rows_errors.Unclosed count) is = run-silent contents has_failed has_stalled (IsCsvRun request input) w (Unclosed count) (is, refl)
   unread-run request input w (rows_errors.Ragged count fields) is = run-silent contents has_failed has_stalled (IsCsvRun request input) w (Ragged count fields) (is, refl)
   unread-run request input w rows_errors.Memory is = run-no_memory contents has_failed has_stalled (IsCsvRun request input) w
 
@@ -102,7 +102,7 @@ module _ (request : Request) (input : List ℕ) (columns : ℕ) (rows : List (Li
   kept-run (Refused e) output kept none = absurd kept
   kept-run (TooWide width) output kept none = absurd kept
   kept-run (NotText count) output kept none = absurd kept
-  kept-run Unclosed output kept none = absurd kept
+  kept-run (Unclosed count) output kept none = absurd kept
   kept-run (Ragged count fields) output kept none = absurd kept
 
   module _ (shown : List (List (List ℕ))) (free : IsFree request rows) (cut : AreCut request.cut rows shown) where
@@ -123,7 +123,7 @@ module _ (request : Request) (input : List ℕ) (columns : ℕ) (rows : List (Li
       sized-run d drawn (NoColumn entry) output so = absurd so
       sized-run d drawn (Hides p) output so = absurd so
       sized-run d drawn (NotText count) output so = absurd so
-      sized-run d drawn Unclosed output so = absurd so
+      sized-run d drawn (Unclosed count) output so = absurd so
       sized-run d drawn (Ragged count fields) output so = absurd so
 
       config-run : (end : CsvEnd) (output : List ℕ) → IsConfigRun request columns shown config end output → IsCsvRun request input end output

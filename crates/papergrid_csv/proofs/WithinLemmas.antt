@@ -60,7 +60,7 @@ module _ {W : Type 0} (contents : W → Option (List ℕ)) (has_failed has_stall
 
   pub unread-within : (w : W) (e : RowsError) → IsUnread asked.reading input e → RunsCsv contents has_failed has_stalled (IsRunWithin asked width input None) w w (end_unread e)
   unread-within w (rows_errors.NotText count) is = silent-within w (NotText count) (is, refl) (λ found wide. cc)
-  unread-within w rows_errors.Unclosed is = silent-within w Unclosed (is, refl) (λ found wide. cc)
+  unread-within w (rows_errors.Unclosed count) is = silent-within w (Unclosed count) (is, refl) (λ found wide. cc)
   unread-within w (rows_errors.Ragged count fields) is = silent-within w (Ragged count fields) (is, refl) (λ found wide. cc)
   unread-within w rows_errors.Memory is = run-no_memory contents has_failed has_stalled (IsRunWithin asked width input None) w
 

@@ -118,7 +118,7 @@ IsUnwritten request input (TooWide width) =
 IsUnwritten request input (Hides p) = HidesAt request input p
 IsUnwritten request input (NoColumn entry) = HasNoColumn request input entry
 IsUnwritten request input (NotText count) = IsUnread request.reading input (rows_errors.NotText count)
-IsUnwritten request input Unclosed = IsUnread request.reading input rows_errors.Unclosed
+IsUnwritten request input (Unclosed count) = IsUnread request.reading input (rows_errors.Unclosed count)
 IsUnwritten request input (Ragged count fields) = IsUnread request.reading input (rows_errors.Ragged count fields)
 
 -- how the run of an input ends, and what is written: the lines of its picture, or nothing

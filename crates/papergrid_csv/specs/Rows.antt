@@ -1,5 +1,5 @@
 -- The rows of a CSV or TSV text.
-use Rattle.std.specs.Prelude.{◌≡◌, ◌-◌, ◌++◌, ℕ, All, List, [], ◌∷◌, Some, Vec, false, length, map, max, replicate, true, ⊤}
+use Rattle.std.specs.Prelude.{◌≡◌, ◌<◌, ◌≤◌, ◌+◌, ◌-◌, ◌++◌, ℕ, All, Bool, List, [], ◌∷◌, Some, Vec, false, length, map, max, replicate, take, true, ⊤}
 use Rattle.std.specs.Borrow.{Bor}
 use Rattle.std.specs.declared.alloc.Global.{Global}
 use Rattle.csv.specs.Machine.{Read, next_record, step}
@@ -33,6 +33,22 @@ state_after config state (byte ∷ bytes) = state_after config (step config stat
 -- a quote that begins a field is not closed before the end of the text
 abbrev pub IsUnclosed : Reading → List ℕ → Type 0
 IsUnclosed reading input = state_after (config_of reading) states.StartRecord (strip_bom input) ≡ states.InQuoted
+
+-- between the quotes of a field, or right behind one that may close them
+abbrev pub is_quoted : State → Bool
+is_quoted states.InQuoted = true
+is_quoted states.AfterQuote = true
+is_quoted state = false
+
+-- the quote after so many bytes is the one: what stands before it ends outside of quotes, and what is longer does not
+pub record IsUnclosedFrom (reading : Reading) (input : List ℕ) (count : ℕ) : Type 0 where
+  pub unclosed : IsUnclosed reading input
+  -- how many they are without a byte order mark
+  pub before : ℕ
+  pub mark : count + length (strip_bom input) ≡ before + length input
+  pub outside : is_quoted (state_after (config_of reading) states.StartRecord (take before (strip_bom input))) ≡ false
+  pub inside : (k : ℕ) → before < k → k ≤ length (strip_bom input)
+      → is_quoted (state_after (config_of reading) states.StartRecord (take k (strip_bom input))) ≡ true
 
 -- each record has as many fields as the first
 abbrev pub AllAsLong : List (List (List ℕ)) → Type 0
@@ -96,7 +112,7 @@ pub record HasRaggedRecord (reading : Reading) (input : List ℕ) (count field_c
 -- why a text has no rows; out of memory says nothing
 abbrev pub IsUnread : Reading → List ℕ → RowsError → Type 0
 IsUnread reading input (NotText count) = HasBadRecord reading input count
-IsUnread reading input Unclosed = IsUnclosed reading input
+IsUnread reading input (Unclosed count) = IsUnclosedFrom reading input count
 IsUnread reading input (Ragged count field_count) = HasRaggedRecord reading input count field_count
 IsUnread reading input Memory = ⊤
 

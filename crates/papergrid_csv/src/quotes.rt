@@ -1,11 +1,12 @@
-//! Whether a quoted field of a text does not end.
+//! The quote of a text that is not closed.
 
-ghost use Rattle.std.specs.Prelude.{◌≡◌, ◌==◌, ◌↔◌, IsTrue, false};
+ghost use Rattle.std.specs.Prelude.{◌≡◌, ◌≤◌, ◌==◌, ◌↔◌, IsTrue, length, false};
+ghost use Rattle.std.specs.Option.{MatchOption};
 ghost use Rattle.std.specs.List.{list_any};
 ghost use Rattle.csv.specs.Reading.{strip_bom};
-ghost use Rattle.papergrid_csv.specs.Rows.{IsUnclosed};
+ghost use Rattle.papergrid_csv.specs.Rows.{IsUnclosed, IsUnclosedFrom};
 ghost use Rattle.papergrid_csv.specs.declared.quotes.Place.TheVariants.{Quoted, Start};
-ghost use Rattle.papergrid_csv.specs.ForProofs.Places.{place_after, place_behind, plain_place};
+ghost use Rattle.papergrid_csv.specs.ForProofs.Places.{IsLastOutside, is_between, place_after, place_behind, plain_place};
 
 use crate::reading::{Format, Reading};
 use papergrid_text::search::find_byte;
@@ -23,13 +24,20 @@ enum Place {
     Quote,
 }
 
-/// Whether a quote that begins a field is not closed before the end of the text.
-pub fn is_unclosed(reading: Reading, input: &[u8]) -> bool
-    ensures { IsTrue result ↔ IsUnclosed reading input.now }
+/// After how many bytes the quote stands that begins a field and is not closed before the end of the text.
+pub fn unclosed_quote(reading: Reading, input: &[u8]) -> Option<usize>
+    ensures { MatchOption result (IsUnclosed reading input.now → ⊥)
+        (IsUnclosedFrom reading input.now) }
 {
     match reading.format {
-        Format::Csv(delimiter) => ends_quoted(delimiter, without_bom(input)),
-        Format::Tsv => false,
+        Format::Csv(delimiter) => {
+            let text = without_bom(input);
+            if !ends_quoted(delimiter, text) {
+                return None;
+            }
+            Some(input.len() - text.len() + last_outside(delimiter, text))
+        }
+        Format::Tsv => None,
     }
 }
 
@@ -57,6 +65,30 @@ fn ends_quoted(delimiter: u8, text: &[u8]) -> bool
         at = find_byte(rest, b'"');
     }
     place_past(delimiter, place, rest) == Place::Quoted
+}
+
+/// After how many bytes of a text the last one stands outside of quotes, where the text ends between them.
+fn last_outside(delimiter: u8, text: &[u8]) -> usize
+    requires { place_behind delimiter Start text.now ≡ Quoted }
+    ensures last { IsLastOutside delimiter text.now result }
+    ensures bound { result ≤ length text.now }
+{
+    let (mut place, mut last, mut at) = (Place::Start, 0, 0);
+    while at < text.len() {
+        if !is_between(place) {
+            last = at;
+        }
+        place = place_after(delimiter, place, text[at]);
+        at += 1;
+    }
+    last
+}
+
+/// Whether a byte stands between the quotes of a field, or right behind one that may close them.
+fn is_between(place: Place) -> bool
+    ensures { result ≡ is_between place }
+{
+    matches!(place, Place::Quoted | Place::Quote)
 }
 
 /// Where the byte after these stands, of which none is a quote.

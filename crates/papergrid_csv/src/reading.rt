@@ -7,7 +7,7 @@ ghost use Rattle.papergrid_csv.specs.Rows.{AreRowsOf, IsUnclosed, IsUnread, conf
 ghost use Rattle.papergrid_csv.specs.Spelling.{spelled};
 ghost use Rattle.papergrid_csv.specs.ForProofs.Read.{AreShownFields, IsReadSoFar, has_other_length, unread_of};
 
-use crate::quotes::is_unclosed;
+use crate::quotes::unclosed_quote;
 use crate::spelling::spell;
 use bumpalo::Bump;
 use csv::{Error, ErrorKind, Reader, ReaderBuilder, StringRecord};
@@ -50,9 +50,9 @@ pub enum RowsError {
     /// After so many records comes one with a field that is no text.
     #[error("a field is no text, after {0} records")]
     NotText(usize),
-    /// A quote that begins a field is not closed before the end of the text.
-    #[error("a quoted field does not end")]
-    Unclosed,
+    /// The quote after so many bytes of the text begins a field and is not closed before the end.
+    #[error("a quote that begins a field is not closed, after {0} bytes")]
+    Unclosed(usize),
     /// After so many records comes one with so many fields, where the first has another number.
     #[error("a record has {1} fields, unlike the first, after {0} records")]
     Ragged(usize, usize),
@@ -76,9 +76,9 @@ impl From<AllocError> for RowsError {
 ///
 /// # Errors
 ///
-/// `Unclosed` where a quoted field does not end. Else, by the first record that has a field that is no text, or, where
-/// the reading is strict, another number of fields than the first: `NotText` with the number of records before it, or
-/// `Ragged` with that number and its own of fields. And `Memory`.
+/// `Unclosed` with the number of bytes before a quote that begins a field and is not closed. Else, by the first record
+/// that has a field that is no text, or, where the reading is strict, another number of fields than the first: `NotText`
+/// with the number of records before it, or `Ragged` with that number and its own of fields. And `Memory`.
 pub fn read_rows<'t>(
     alloc: Global,
     texts: &'t Bump,
@@ -89,8 +89,8 @@ pub fn read_rows<'t>(
         (held_texts rows.rows)) }
     ensures unread { IfErr result (IsUnread reading input.now) }
 {
-    if is_unclosed(reading, input) {
-        return Err(RowsError::Unclosed);
+    if let Some(count) = unclosed_quote(reading, input) {
+        return Err(RowsError::Unclosed(count));
     }
     let shown = shown_records(alloc, texts, reading, input)?;
     let columns = greatest_length(&shown);

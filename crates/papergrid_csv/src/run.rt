@@ -48,8 +48,8 @@ pub enum CsvEnd {
     NoColumn(usize),
     /// After so many records comes one with a field that is no text.
     NotText(usize),
-    /// A quote that begins a field is not closed before the end of the text.
-    Unclosed,
+    /// The quote after so many bytes of the text begins a field and is not closed before the end.
+    Unclosed(usize),
     /// After so many records comes one with so many fields, where the first has another number.
     Ragged(usize, usize),
 }
@@ -110,7 +110,7 @@ pub fn end_unread(error: RowsError) -> Result<CsvEnd, RunFault>
 {
     match error {
         RowsError::NotText(before) => Ok(CsvEnd::NotText(before)),
-        RowsError::Unclosed => Ok(CsvEnd::Unclosed),
+        RowsError::Unclosed(count) => Ok(CsvEnd::Unclosed(count)),
         RowsError::Ragged(before, fields) => Ok(CsvEnd::Ragged(before, fields)),
         RowsError::Memory => Err(RunFault::Memory),
     }

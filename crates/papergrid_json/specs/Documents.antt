@@ -106,12 +106,12 @@ abbrev pub own_sizes : OwnSizes → List ℕ × List ℕ
 own_sizes sizes = (sizes.widths.items, sizes.heights.items)
 
 -- the texts of rows
-abbrev pub row_texts : List (Vec (String Global) Global) → List (List (List ℕ))
-row_texts rows = map (λ row. map string_bytes row.items) rows
+abbrev pub texts_of_rows : List (Vec (String Global) Global) → List (List (List ℕ))
+texts_of_rows rows = map (λ row. map string_bytes row.items) rows
 
 -- the texts of a document, row by row
 abbrev pub document_texts : Document → List (List (List ℕ))
-document_texts document = row_texts document.rows.items
+document_texts document = texts_of_rows document.rows.items
 
 -- a document with what is told
 pub record IsDocument (told : Told × List (List (List ℕ))) (document : Document) : Type 0 where
@@ -131,16 +131,18 @@ document_in text = option_and_then told_in (read text)
 abbrev pub setting_in : List ℕ → Option Setting
 setting_in text = option_and_then (λ value. accepted_at (Some value)) (read text)
 
--- a document is read of a text that tells it; a text that is refused is no JSON in UTF-8, or tells none
-abbrev pub IsDocumentRead : List ℕ → Result Document DocumentError → Type 0
-IsDocumentRead text (Ok document) = (told : Told × List (List (List ℕ))) × (document_in text ≡ Some told) × IsDocument told document
-IsDocumentRead text (Err Memory) = ⊤
-IsDocumentRead text (Err (Syntax line byte)) = IsUtf8 text → read text ≡ None
-IsDocumentRead text (Err error) = (is_some (read text) ≡ true) × (document_in text ≡ None)
+module _ {T A : Type 0} (told_in : List ℕ → Option T) (Is : T → A → Type 0) where
+  -- a value is read of a text that tells it so; a text that is refused is no JSON in UTF-8, or tells none
+  abbrev pub IsReadBy : List ℕ → Result A DocumentError → Type 0
+  IsReadBy text (Ok value) = (told : T) × (told_in text ≡ Some told) × Is told value
+  IsReadBy text (Err Memory) = ⊤
+  IsReadBy text (Err (Syntax line byte)) = IsUtf8 text → read text ≡ None
+  IsReadBy text (Err error) = (is_some (read text) ≡ true) × (told_in text ≡ None)
 
--- the same of a setting
+-- a document is read so
+abbrev pub IsDocumentRead : List ℕ → Result Document DocumentError → Type 0
+IsDocumentRead = IsReadBy document_in IsDocument
+
+-- a setting is
 abbrev pub IsSettingRead : List ℕ → Result Setting DocumentError → Type 0
-IsSettingRead text (Ok setting) = setting_in text ≡ Some setting
-IsSettingRead text (Err Memory) = ⊤
-IsSettingRead text (Err (Syntax line byte)) = IsUtf8 text → read text ≡ None
-IsSettingRead text (Err error) = (is_some (read text) ≡ true) × (setting_in text ≡ None)
+IsSettingRead = IsReadBy setting_in (λ told setting. setting ≡ told)

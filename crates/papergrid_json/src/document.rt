@@ -7,7 +7,7 @@ ghost use Rattle.papergrid_json.specs.Spots.{count, each, list_at, optional, tex
 ghost use Rattle.papergrid_config.specs.Applied.{is_in_range};
 ghost use Rattle.papergrid_json.specs.declared.error.Fault.TheVariants.{Memory};
 ghost use Rattle.papergrid_json.specs.ForProofs.Reading.{AreItems, AreOwnSizes, IsDraft, IsFinished, IsJsonRead, IsReading, IsReadingAs, IsTableRead, found};
-ghost use Rattle.papergrid_json.specs.Documents.{AreColors, AreInRange, IsDocumentRead, IsSettingRead, accepted_at, are_enough, colored_at, draft_in, longest_row, items_at, optional_list_at, own_sizes_at, row_texts_in, own_sizes, row_texts};
+ghost use Rattle.papergrid_json.specs.Documents.{AreColors, AreInRange, IsDocumentRead, IsSettingRead, accepted_at, are_enough, colored_at, draft_in, longest_row, items_at, optional_list_at, own_sizes_at, row_texts_in, own_sizes, texts_of_rows};
 
 use crate::error::{DocumentError, Fault, told};
 use crate::place::Place;
@@ -214,7 +214,7 @@ const COLOR: &str = "[row, column, text before, text after]";
 /// The rows of texts that a JSON value tells.
 #[tactic(auto, unfolding(crate::specs::Documents::row_texts_in, crate::specs::Spots::list_at))]
 fn rows(alloc: Global, document: Value) -> Result<Vec<Vec<String>>, Fault<'static>>
-    ensures { IsReadingAs (λ told rows. row_texts rows.items ≡ told)
+    ensures { IsReadingAs (λ told rows. texts_of_rows rows.items ≡ told)
         (row_texts_in (view document)) result }
 {
     let place = Place::of("records");
@@ -252,7 +252,7 @@ fn rows_of(
     place: Place,
     records: Vec<Value>,
 ) -> Result<Vec<Vec<String>>, Fault<'static>>
-    ensures { IsReadingAs (λ told rows. row_texts rows.items ≡ told)
+    ensures { IsReadingAs (λ told rows. texts_of_rows rows.items ≡ told)
         (each (list_at text_at) (items_view records.items)) result }
 {
     let mut rows = Vec::with_capacity(alloc, records.len())?;
@@ -292,7 +292,7 @@ fn texts(alloc: Global, place: Place, cells: Vec<Value>) -> Result<Vec<String>, 
 
 /// The greatest number of texts.
 fn longest_row(rows: &[Vec<String>]) -> usize
-    ensures { result ≡ longest_row (row_texts rows.now) }
+    ensures { result ≡ longest_row (texts_of_rows rows.now) }
 {
     let mut greatest = 0;
     for row in rows {
@@ -303,7 +303,7 @@ fn longest_row(rows: &[Vec<String>]) -> usize
 
 /// The table of a draft with these rows.
 fn finished(draft: Draft, rows: Vec<Vec<String>>) -> Result<Document, Fault<'static>>
-    ensures { IsFinished draft (row_texts rows.items) result }
+    ensures { IsFinished draft (texts_of_rows rows.items) result }
 {
     let columns = match draft.columns {
         Some(columns) => columns,

@@ -1,7 +1,7 @@
 //! What is left of a reader, read to its end.
 
-ghost use Rattle.std.specs.Prelude.{◌≡◌, true, IfOk, IfSome, OnOk, IsErrOf};
-ghost use Rattle.std.specs.Io.KnownBytes.{Consumes, IsAtEnd};
+ghost use Rattle.std.specs.Prelude.{◌≡◌, true, IfOk, OnOk, IsErrOf};
+ghost use Rattle.papergrid_script.specs.Inputs.{IsWholeInput};
 ghost use Rattle.papergrid_script.specs.declared.reading.RunFault.TheVariants.{Memory};
 
 use papergrid_text::transfer::Source;
@@ -32,11 +32,8 @@ impl From<AllocError> for RunFault {
 
 /// All the bytes that are left.
 pub fn read_all<S: Source>(alloc: Global, reader: &mut S) -> Result<Vec<u8>, RunFault>
-    ensures bytes { IfOk result (λ input. IfSome (S.remaining reader.old) (λ left.
-        input.items ≡ left)) }
-    ensures given { IfOk result (λ input. Consumes (S.remaining reader.old)
+    ensures whole { IfOk result (λ input. IsWholeInput (S.remaining reader.old)
         (S.remaining reader.new) input.items) }
-    ensures end { OnOk result (IsAtEnd (S.remaining reader.new)) }
     ensures works { OnOk result (S.has_failed reader.new ≡ S.has_failed reader.old) }
     ensures memory { IsErrOf result RunFault.Memory →
         S.has_failed reader.new ≡ S.has_failed reader.old }

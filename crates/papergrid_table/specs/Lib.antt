@@ -2,6 +2,8 @@
 pub mod Arguments
 pub mod Options
 pub mod Pictures
+pub mod Places
+pub mod Spans
 pub mod Statuses
 pub mod Values
 pub mod ForProofs

@@ -14,6 +14,7 @@ mod places;
 mod progress;
 mod run;
 mod sizes;
+mod spans;
 mod styles;
 mod values;
 mod wide;

@@ -1,12 +1,13 @@
 //! What is said of a text that has no picture.
 
-use crate::places::{first_bad_byte, line_of_record, record_after, unclosed_line};
+use crate::places::{Spot, first_bad_byte, line_of_record, record_after, spot_after};
 use crate::sizes::{text_at, whole_rows};
+use crate::spans::{hider_of, last_at, overlap_at};
 use crate::values::{alignment_name, span_text};
 use crate::wide::too_wide;
 use bumpalo::Bump;
 use papergrid::grid::DrawError;
-use papergrid_csv::{ColumnName, CsvEnd, Format, Request, Span};
+use papergrid_csv::{ColumnName, CsvEnd, Request, Span};
 use papergrid_script::program::{name_like, quoted, shown};
 use papergrid_values::Position;
 use std::alloc::{AllocError, Global};
@@ -26,23 +27,16 @@ pub fn message_of(
         CsvEnd::Hides(position) => hides(alloc, request, input, position),
         CsvEnd::NoColumn(number) => no_column(alloc, request, input, number),
         CsvEnd::NotText(_) => {
-            let spot = first_bad_byte(input);
-            let (line, byte) = (spot.line, spot.byte);
+            let Spot { line, byte } = first_bad_byte(input);
             format!(in alloc; "{name}: line {line}, byte {byte}: not UTF-8")
         }
-        CsvEnd::Unclosed => {
-            let line = unclosed_line(delimiter_of(request.reading.format), input).unwrap_or(1);
-            format!(in alloc; "{name}: line {line}: a quote that begins here is not closed")
+        CsvEnd::Unclosed(count) => {
+            let Spot { line, byte } = spot_after(input, count);
+            format!(in alloc;
+                "{name}: line {line}, byte {byte}: a quote that begins here is not closed"
+            )
         }
         CsvEnd::Ragged(count, fields) => ragged(alloc, request, name, input, (count, fields)),
-    }
-}
-
-/// The byte between fields.
-fn delimiter_of(format: Format) -> u8 {
-    match format {
-        Format::Csv(delimiter) => delimiter,
-        Format::Tsv => b'\t',
     }
 }
 
@@ -128,22 +122,11 @@ fn rows_and_columns(
     }
 }
 
-/// The last span of the cell at a position.
-fn last_at(spans: &[Span], position: Position) -> Option<&Span> {
-    let mut last = None;
-    for span in spans {
-        if span.position == position {
-            last = Some(span);
-        }
-    }
-    last
-}
-
 /// What is said of a position that two spans cover.
 fn not_tiled(alloc: Global, request: &Request, position: Position) -> Result<String, AllocError> {
     let Position { row, col } = position;
     match overlap_at(&request.spans, position) {
-        Some((later, earlier)) => overlaps(alloc, later, earlier, position),
+        Some((later, first)) => overlaps(alloc, later, first, position),
         None => {
             format!(in alloc; "spans overlap at row {row}, column {col}, or leave it to no cell")
         }
@@ -160,23 +143,6 @@ fn overlaps(
     let Position { row, col } = position;
     let (later, earlier) = (span_text(alloc, later)?, span_text(alloc, earlier)?);
     format!(in alloc; "{later}: overlaps {earlier} at row {row}, column {col}")
-}
-
-/// Two spans that begin apart and cover a position: the first one that does, behind the next one that begins elsewhere.
-fn overlap_at(spans: &[Span], position: Position) -> Option<(&Span, &Span)> {
-    let mut covering = spans.iter().filter(|span| covers(span, position));
-    let earlier = covering.next()?;
-    let later = covering.find(|span| span.position != earlier.position)?;
-    Some((later, earlier))
-}
-
-/// Whether a position is in the rectangle of a span.
-fn covers(span: &Span, position: Position) -> bool {
-    let Position { row, col } = span.position;
-    row <= position.row
-        && col <= position.col
-        && position.row.saturating_sub(row) < span.rows
-        && position.col.saturating_sub(col) < span.columns
 }
 
 /// What is said of a field that a span hides.
@@ -213,16 +179,6 @@ fn field_at(
         Some(rows) => quoted(alloc, text_at(&rows, position).unwrap_or("")),
         None => quoted(alloc, ""),
     }
-}
-
-/// The first span that covers a position and begins at another.
-fn hider_of(spans: &[Span], position: Position) -> Option<&Span> {
-    for span in spans {
-        if covers(span, position) && span.position != position {
-            return Some(span);
-        }
-    }
-    None
 }
 
 /// What is said of an alignment of a column that there is not.

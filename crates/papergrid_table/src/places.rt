@@ -1,6 +1,12 @@
 //! Where in a text something stands.
 
-use csv::{ByteRecord, Error, ErrorKind, Reader, ReaderBuilder};
+ghost use Rattle.std.specs.Prelude.{◌≡◌, ◌≤◌, ℕ, count_by, IsUtf8, length, nat_eq, not};
+ghost use Rattle.std.specs.Fmt.{is_char_start};
+ghost use Rattle.std.specs.List.{suffix_len};
+ghost use Rattle.std.specs.Str.{IsValidUpTo};
+ghost use Rattle.papergrid_table.specs.Places.{column_after, last_line, line_count, spot_after};
+
+use csv::{ByteRecord, Reader, ReaderBuilder};
 use papergrid_csv::{Format, Reading};
 use std::alloc::{AllocError, Global};
 
@@ -21,25 +27,68 @@ pub struct Found {
 }
 
 /// Where the byte after so many stands.
-pub fn spot_after(text: &[u8], count: usize) -> Spot {
+pub fn spot_after(text: &[u8], count: usize) -> Spot
+    ensures { result ≡ spot_after text.now count }
+{
     let before = text.get(..count).unwrap_or(text);
-    let line = line_after(text, count);
-    let byte = match before.iter().rposition(|byte| *byte == b'\n') {
-        Some(end) => before.len().saturating_sub(end),
-        None => before.len().saturating_add(1),
-    };
-    Spot { line, byte }
+    Spot {
+        line: line_count(before),
+        byte: last_line(before).len() + 1,
+    }
 }
 
-/// The line, counted from 1, of the byte after so many.
-fn line_after(text: &[u8], count: usize) -> usize {
+/// The character of its line, counted from 1, which the byte after so many begins, or is in.
+pub fn column_after(text: &[u8], count: usize) -> usize
+    ensures { result ≡ column_after text.now count }
+{
     let before = text.get(..count).unwrap_or(text);
-    let feeds = before.iter().filter(|byte| **byte == b'\n').count();
-    feeds.saturating_add(1)
+    let begins = text.get(count).is_none_or(|byte| begins_character(*byte));
+    characters(last_line(before)) + usize::from(begins)
 }
 
-/// Where the first byte is that is not UTF-8.
-pub fn first_bad_byte(text: &[u8]) -> Spot {
+/// How many lines a text has: one more than line feeds.
+fn line_count(text: &[u8]) -> usize
+    ensures { result ≡ line_count text.now }
+{
+    text.iter().filter(|byte| **byte == b'\n').count() + 1
+}
+
+/// What stands behind the last line feed of a text.
+fn last_line(text: &[u8]) -> &[u8]
+    ensures { result.now ≡ last_line text.now }
+{
+    &text[text.len() - last_length(text)..]
+}
+
+/// How many bytes that has.
+fn last_length(text: &[u8]) -> usize
+    ensures length { result ≡ suffix_len (λ byte. not (nat_eq byte 10)) text.now }
+    ensures bound { result ≤ length text.now }
+{
+    text.iter().rev().take_while(|byte| **byte != b'\n').count()
+}
+
+/// How many characters begin in a text.
+fn characters(text: &[u8]) -> usize
+    ensures count { result ≡ count_by is_char_start text.now }
+    ensures bound { result ≤ length text.now }
+{
+    text.iter().filter(|byte| begins_character(**byte)).count()
+}
+
+/// Whether a byte of UTF-8 begins a character.
+fn begins_character(byte: u8) -> bool
+    ensures { result ≡ is_char_start byte }
+{
+    byte & 0xc0 != 0x80
+}
+
+/// Where the first byte is that is not UTF-8, or where the text ends.
+pub fn first_bad_byte(text: &[u8]) -> Spot
+    ensures text { IsUtf8 text.now → result ≡ spot_after text.now (length text.now) }
+    ensures bad { ¬ (IsUtf8 text.now) →
+        (n : ℕ) × IsValidUpTo text.now n × (result ≡ spot_after text.now n) }
+{
     match std::str::from_utf8(text) {
         Ok(_) => spot_after(text, text.len()),
         Err(error) => spot_after(text, error.valid_up_to()),
@@ -115,51 +164,7 @@ fn found_at(text: &[u8], record: &ByteRecord) -> Found {
         .position(|byte| *byte != b'\n' && *byte != b'\r');
     let first = begin.saturating_add(ends.unwrap_or(rest.len()));
     Found {
-        line: line_after(text, first),
+        line: spot_after(text, first).line,
         fields: record.len(),
-    }
-}
-
-/// What a text is in the midst of, by its bytes.
-#[derive(Clone, Copy)]
-enum Amid {
-    /// Before a field.
-    Start,
-    /// In a field without quotes, or behind those of one.
-    Plain,
-    /// Behind the quote that ends a field, or the first of two.
-    Quote,
-    /// In quotes.
-    Quoted,
-}
-
-/// The line of the quote that begins a field and is not closed, if there is one.
-pub fn unclosed_line(delimiter: u8, text: &[u8]) -> Option<usize> {
-    let text = text
-        .strip_prefix(b"\xef\xbb\xbf".as_slice())
-        .unwrap_or(text);
-    let mut amid = Amid::Start;
-    let mut opened = 0;
-    for (at, byte) in text.iter().enumerate() {
-        let next = after_byte(amid, delimiter, *byte);
-        if matches!((amid, next), (Amid::Start, Amid::Quoted)) {
-            opened = at;
-        }
-        amid = next;
-    }
-    if matches!(amid, Amid::Quoted) {
-        return Some(line_after(text, opened));
-    }
-    None
-}
-
-fn after_byte(amid: Amid, delimiter: u8, byte: u8) -> Amid {
-    match (amid, byte) {
-        (Amid::Start | Amid::Quote, b'"') => Amid::Quoted,
-        (Amid::Quoted, b'"') => Amid::Quote,
-        (Amid::Quoted, _) => Amid::Quoted,
-        (_, b'\n' | b'\r') => Amid::Start,
-        _ if byte == delimiter => Amid::Start,
-        _ => Amid::Plain,
     }
 }

@@ -59,6 +59,27 @@ fn is_headed(alloc: Global) -> bool {
     is_drawn(alloc, &request, b"20\nabc\n", HEADED)
 }
 
+/// Whether a text has a quote that is not closed, after so many bytes, and nothing is written.
+fn is_unclosed(alloc: Global, text: &[u8], count: usize) -> bool {
+    let request = Request::in_style(alloc, Style::Rounded);
+    match csv_table_in_memory(alloc, &request, text) {
+        Ok((CsvEnd::Unclosed(found), written)) => found == count && written.is_empty(),
+        _ => false,
+    }
+}
+
+/// How many bytes stand before a quote that is not closed: those of a mark, and of fields with quotes in them.
+#[test]
+fn quotes_not_closed(rt: HostRuntime) {
+    let alloc = rt.alloc();
+    assert!(rt;
+        is_unclosed(alloc, b"a,\"b", 2)
+            && is_unclosed(alloc, b"\"a\"\"b", 0)
+            && is_unclosed(alloc, b"\"a\",\"\"\"\"\n\"\"\"", 9)
+            && is_unclosed(alloc, b"\xef\xbb\xbf\"", 3)
+    );
+}
+
 /// What no option of the program asks for.
 #[test]
 fn frames_of_a_caller(rt: HostRuntime) {

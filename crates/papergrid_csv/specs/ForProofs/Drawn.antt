@@ -33,7 +33,7 @@ use Rattle.papergrid_csv.specs.declared.run.CsvEnd.TheVariants.{Drawn, Hides, No
 -- how a run ends whose input was not read
 abbrev pub end_unread : RowsError → Result CsvEnd RunFault
 end_unread (rows_errors.NotText before) = Ok (NotText before)
-end_unread rows_errors.Unclosed = Ok Unclosed
+end_unread (rows_errors.Unclosed count) = Ok (Unclosed count)
 end_unread (rows_errors.Ragged before fields) = Ok (Ragged before fields)
 end_unread rows_errors.Memory = Err run_faults.Memory
 

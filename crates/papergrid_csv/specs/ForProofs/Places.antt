@@ -1,5 +1,5 @@
 -- Where the bytes of a text stand, as far as it depends on quotes.
-use Rattle.std.specs.Prelude.{ℕ, ◌==◌, ◌||◌, if◌then◌else◌, List, [], ◌∷◌}
+use Rattle.std.specs.Prelude.{◌≡◌, ◌<◌, ◌≤◌, ℕ, Bool, true, false, length, take, ◌==◌, ◌||◌, if◌then◌else◌, List, [], ◌∷◌}
 use Rattle.papergrid_csv.specs.declared.quotes.Place.{Place}
 use Rattle.papergrid_csv.specs.declared.quotes.Place.TheVariants.{Field, Quote, Quoted, Start}
 
@@ -18,3 +18,14 @@ place_after delimiter Quote byte = if byte == 34 then Quoted else plain_place de
 unfoldable pub place_behind : ℕ → Place → List ℕ → Place
 place_behind delimiter place [] = place
 place_behind delimiter place (byte ∷ bytes) = place_behind delimiter (place_after delimiter place byte) bytes
+
+-- between the quotes of a field, or right behind one that may close them
+abbrev pub is_between : Place → Bool
+is_between Quoted = true
+is_between Quote = true
+is_between place = false
+
+-- after so many bytes of a text the last one stands outside of quotes
+pub record IsLastOutside (delimiter : ℕ) (text : List ℕ) (count : ℕ) : Type 0 where
+  pub outside : is_between (place_behind delimiter Start (take count text)) ≡ false
+  pub inside : (k : ℕ) → count < k → k ≤ length text → is_between (place_behind delimiter Start (take k text)) ≡ true

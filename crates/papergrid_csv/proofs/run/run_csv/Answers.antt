@@ -16,4 +16,4 @@ pub returns : goal.returns
 returns g c =
     let read = c.in_ok-input.ensures in
     let so = subst (λ input. WritesOutput g.W.Sink.contents g.W.Sink.has_failed g.W.Sink.has_stalled IsPictured (IsCsvRun c.args.request.now input) c.args.writer.now c.draw_input.new.writer c.draw_input.result) c.as_slice.ensures.value c.draw_input.ensures in
-    runs-read c.requires.reader c.requires.writer (λ end is output so. subst (λ e. IsCsvRun c.args.request.now c.in_ok-input.field-0.items e output) is so) read.works (record { read = read.given; all = read.bytes; at_end = read.end }) c.draw_input.result so
+    runs-read c.requires.reader c.requires.writer (λ end is output so. subst (λ e. IsCsvRun c.args.request.now c.in_ok-input.field-0.items e output) is so) read.works read.whole c.draw_input.result so

@@ -16,4 +16,4 @@ pub returns-clause-runs : goal.returns-clause-runs
 returns-clause-runs g c =
     let read = c.in_ok-input.ensures in
     let so = subst (λ input. WritesOutput g.W.Sink.contents g.W.Sink.has_failed g.W.Sink.has_stalled IsPictured (IsRunWithin c.args.request.now c.args.width input c.draw_within.new.request.cut) c.args.writer.now c.draw_within.new.writer c.draw_within.result) c.as_slice.ensures.value c.draw_within.ensures.runs in
-    runs-read c.requires.reader c.requires.writer (λ end is output so. subst (λ e. IsRunWithin c.args.request.now c.args.width c.in_ok-input.field-0.items c.draw_within.new.request.cut e output) is so) read.works (record { read = read.given; all = read.bytes; at_end = read.end }) c.draw_within.result so
+    runs-read c.requires.reader c.requires.writer (λ end is output so. subst (λ e. IsRunWithin c.args.request.now c.args.width c.in_ok-input.field-0.items c.draw_within.new.request.cut e output) is so) read.works read.whole c.draw_within.result so

@@ -16,4 +16,4 @@ pub returns : goal.returns
 returns g c =
     let read = c.in_ok-input.ensures in
     let so = subst (λ text. WritesOutput g.W.Sink.contents g.W.Sink.has_failed g.W.Sink.has_stalled (λ _. ⊤) (IsDocumentRun c.args.sizing text) c.args.writer.now c.draw_text.new.writer c.draw_text.result) c.as_slice.ensures.value c.draw_text.ensures in
-    runs-read c.requires.reader c.requires.writer (λ end any output is. (end, is)) read.works (record { read = read.given; all = read.bytes; at_end = read.end }) c.draw_text.result so
+    runs-read c.requires.reader c.requires.writer (λ end any output is. (end, is)) read.works read.whole c.draw_text.result so
