@@ -28,11 +28,6 @@ use Rattle.papergrid_c.specs.contracts.handle.loose.Loose as loose
 abbrev pub both : Val → Val → Val
 both v w = vstruct (vcons v (vcons w vnil))
 
-pub both_tt : (x y : Bool) → T x → T y → T (x && (y && true))
-both_tt true true s t = tt
-both_tt true false s t = absurd t
-both_tt false y s t = absurd s
-
 module _ (R Z : RattleType) (L : Laws Z) (g : Ghosts Z.Denot) where
   abbrev pub Loose : RattleType
   Loose = loose.the_row R Z g

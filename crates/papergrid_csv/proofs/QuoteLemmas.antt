@@ -112,13 +112,6 @@ module _ (delimiter : ℕ) where
 
 -- ---- a byte order mark
 
-none-after_mark : (input : List ℕ) → list_any (λ b. b == 34) input ≡ false → list_any (λ b. b == 34) (strip_bom input) ≡ false
-unfolding strip_bom
-none-after_mark [] none = none
-none-after_mark (a ∷ []) none = none
-none-after_mark (a ∷ b ∷ []) none = none
-none-after_mark (a ∷ b ∷ c ∷ rest) none = grind (arith, nat_tests)
-
 abbrev mark : List ℕ
 mark = 0xEF ∷ 0xBB ∷ 0xBF ∷ []
 

@@ -2,7 +2,7 @@
 use Rattle.std.proofs.Common.{◌≡◌, ◌∙◌, ◌<◌, ◌+◌, ℕ, zero, suc, List, [], ◌∷◌, ◌++◌, Bool, Option, Some, None, Vec, ap, append_assoc, arith, get_or, length, map, max, refl, replicate, sym, take, true, false}
 use Rattle.std.specs.Borrow.{Bor}
 use Rattle.std.specs.declared.alloc.Global.{Global}
-use Rattle.std.specs.Prelude.{◌==◌, ◌&&◌, ◌↔◌, All, IsTrue}
+use Rattle.std.specs.Prelude.{◌==◌, ◌&&◌, All}
 use Rattle.std.specs.Ordering.{nat_cmp, ord_max}
 use Rattle.std.proofs.Math.Seq.{take-nil}
 use Rattle.std.proofs.lemmas.Bool.{and_parts}
@@ -98,9 +98,6 @@ config-known Tsv delimiter quoting first second = rw (first, second) refl
 pub counted-rows : (strict : Bool) (fields : List (List ℕ)) (lent held : List (Vec (Bor (List ℕ)) Global)) → lent ≡ held →
     (strict && has_other_length (map row_texts lent) fields) ≡ (strict && has_other_length (map row_texts held) fields)
 counted-rows strict fields lent held same = ap (λ rows. strict && has_other_length (map row_texts rows) fields) same
-
-pub untold : (reading : Reading) (input : List ℕ) (told : Bool) → IsTrue told ↔ IsUnclosed reading input → told ≡ false → IsUnclosed reading input → ⊥
-untold reading input told tells not_told unclosed = let yes : told ≡ true = tells.1 unclosed in cc
 
 -- ---- a read that found a record
 

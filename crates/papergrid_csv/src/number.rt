@@ -9,7 +9,7 @@ ghost use Rattle.papergrid_csv.specs.Rows.{row_texts};
 /// Whether a text is a number: a sign or none; digits, or one to three digits and then groups of a comma and three digits; a
 /// point or none, with digits behind it or none; an exponent or none. One digit at least stands before or behind the point.
 #[tactic(auto, unfolding(crate::specs::Numbers::is_number))]
-pub fn is_number(text: &str) -> bool
+fn is_number(text: &str) -> bool
     ensures { result ≡ is_number text.now }
 {
     let unsigned = after_sign(text.as_bytes());

@@ -154,10 +154,6 @@ module _ (frame : Frame) where
   pub columns-past : (col : ℕ) → frame.shape.1 ≤ col → length frame.table.now.widths ≤ col
   columns-past col past = subst (λ n. n ≤ col) (frame-columns frame) past
 
-  -- the line after the last one
-  pub last-in : frame.shape.1 ≤ length frame.table.now.widths
-  last-in = let wide = frame-columns frame in omega (arith, wide)
-
   pub last-kept : frame.shape.1 < frame.verticals.len
   last-kept = let wide = frame-columns frame in omega (arith, wide, frame.read.verticals_are.many, frame.verticals.ok.0)
 

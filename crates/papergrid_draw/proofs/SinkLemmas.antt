@@ -122,15 +122,6 @@ module _ {W : Type 0} (contents : W → Option (List ℕ)) (has_failed has_stall
     steady = steady-left a b bytes e p;
   }
 
-  -- a sink that is as it was, where no write failed
-  pub cut-off-before : (a : W) (bytes : List ℕ) (error : DrawError) → error ≢ Write → IsCutOff contents has_failed has_stalled a bytes a error
-  cut-off-before a bytes error works = record {
-    nothing = λ named. refl;
-    beginning = beginning-none a a bytes refl;
-    write = λ is. absurd (works is);
-    steady = inr (refl, refl);
-  }
-
   -- a beginning and then a text that broke off
   pub cut-off-after : (a b c : W) (xs whole : List ℕ) → took a xs b → HasEnded contents has_failed has_stalled b c → HasBegun contents has_failed has_stalled a whole c →
       IsCutOff contents has_failed has_stalled a whole c Write

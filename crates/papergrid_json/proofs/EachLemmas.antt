@@ -15,10 +15,6 @@ use Rattle.papergrid_json.specs.Spots.{count, each, is_missing, item_at}
 use Rattle.papergrid_json.specs.declared.error.Fault.{Fault}
 use Rattle.papergrid_json.specs.declared.error.Fault.TheVariants.{Memory, Unexpected, UnknownSetting}
 
-map_map : {A B C : Type 0} (f : B → C) (g : A → B) (o : Option A) → option_map f (option_map g o) ≡ option_map (λ a. f (g a)) o
-map_map f g None = refl
-map_map f g (Some a) = refl
-
 map_same : {A : Type 0} (o : Option A) → option_map (λ a. a) o ≡ o
 map_same None = refl
 map_same (Some a) = refl

@@ -124,12 +124,3 @@ runs-as seen follows begins (Err fault) other is runs = rw is (record {
     | inr begun ↦ inr (begun.0, begins begun.0 begun.1, begun.2)
   ];
 })
-
--- a run that may begin with more
-pub runs-begins : {R W E : Type 0} {remaining : R → Option (List ℕ)} {read_failed : R → Bool} {contents : W → Option (List ℕ)} {has_failed has_stalled : W → Bool}
-    {reader_old reader_new : R} {writer_old writer_new : W} {input_old input_new : Vec ℕ Global} {IsOutput : E → List ℕ → Type 0} {MayBegin MayBeginSo : List ℕ → Type 0}
-    → ((output : List ℕ) → MayBegin output → MayBeginSo output) → (result : Result E RunFault) →
-    Runs remaining read_failed contents has_failed has_stalled reader_old reader_new writer_old writer_new input_old input_new IsOutput MayBegin result →
-    Runs remaining read_failed contents has_failed has_stalled reader_old reader_new writer_old writer_new input_old input_new IsOutput MayBeginSo result
-runs-begins begins (Ok end) runs = runs-as (λ end. end) (λ end output so. so) begins (Ok end) (Ok end) refl runs
-runs-begins begins (Err fault) runs = runs-as (λ end. end) (λ end output so. so) begins (Err fault) (Err fault) refl runs

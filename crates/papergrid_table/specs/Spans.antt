@@ -1,5 +1,5 @@
 -- Which span a message names.
-use Rattle.std.specs.Prelude.{◌&&◌, ◌+◌, ℕ, Bool, find, List, nat_eq, nat_le, nat_lt, not, Option, None, Some, option_map, reverse}
+use Rattle.std.specs.Prelude.{◌&&◌, ◌+◌, Bool, find, List, nat_eq, nat_le, nat_lt, not, Option, None, Some, option_map, reverse}
 use Rattle.papergrid_values.specs.declared.position.Position.{Position}
 use Rattle.papergrid_csv.specs.declared.request.Span.{Span}
 

@@ -1,4 +1,4 @@
-use Rattle.std.proofs.Common.{arith, refl}
+use Rattle.std.proofs.Common.{refl}
 use Rattle.papergrid_csv.proofs.QuoteLemmas.{short-unmarked, tells-quoted, tsv-closed, unclosed-from}
 use Rattle.papergrid_csv.proofs.quotes.unclosed_quote.Goals as goal
 
