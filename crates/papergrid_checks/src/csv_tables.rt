@@ -1,7 +1,10 @@
 //! Tables of CSV texts.
 
-ghost use Rattle.std.specs.Prelude.{◌≡◌, ◌⊎◌, IfOk, IsErrOf, IsSome, List, OnErr, OnOk, false, true, ℕ};
+ghost use Rattle.std.specs.Prelude.{◌≡◌, ◌⊎◌, IfOk, IfSome, IsErrOf, IsSome, List, OnErr, OnOk, Some, false, true, ℕ};
 ghost use Rattle.std.specs.Io.KnownBytes.{Appends};
+ghost use Rattle.papergrid_values.specs.declared.per_direction.PerDirection.{PerDirection};
+ghost use Rattle.papergrid_tracks.specs.declared.solution.Solved.{Solved};
+ghost use Rattle.papergrid_csv.specs.Certified.{IsCsvCertified};
 ghost use Rattle.papergrid_csv.specs.Pictures.{IsCsvRun};
 ghost use Rattle.papergrid_csv.specs.Requests.{IsSeparating};
 ghost use Rattle.papergrid_csv.specs.Within.{IsRunWithin, cut_request};
@@ -11,8 +14,10 @@ ghost use Rattle.papergrid_csv.specs.declared.style.Style.TheVariants.{Plain};
 ghost use Rattle.papergrid_checks.specs.Written.{AppendsBeginning};
 
 use papergrid::{ByteSink, ReadSource, RunFault, Sink};
-use papergrid_csv::{Alignment, CsvEnd, Request, Style, run_csv, run_csv_within};
-use std::alloc::Global;
+use papergrid_csv::{Alignment, CsvEnd, Request, Style, certify_csv, run_csv, run_csv_within};
+use papergrid_layout::Solved;
+use papergrid_values::Position;
+use std::alloc::{AllocError, Global};
 
 /// A request for a table in a style, with columns of numbers on the right.
 pub fn aligned(alloc: Global, style: Style) -> Request
@@ -81,4 +86,29 @@ pub fn csv_table_in_memory(
     let mut sink = ByteSink::new(alloc);
     let end = csv_table(alloc, request, text, &mut sink)?;
     Ok((end, sink.into_bytes()))
+}
+
+/// How many columns of a terminal the table of a CSV text takes, and the cells that show that none with room for all its texts is
+/// narrower. Nothing where it has no table, or no such cells.
+pub fn csv_width(
+    alloc: Global,
+    request: &Request,
+    text: &[u8],
+) -> Result<Option<(usize, Vec<Position>)>, AllocError>
+    ensures { IfOk result (λ found. IfSome found (λ (width, places).
+        (both : PerDirection Solved) × IsCsvCertified request.now text.now both
+        × (width ≡ both.columns.total) × (both.columns.certificate ≡ Some places))) }
+{
+    let Some(both) = certify_csv(alloc, request, text)? else {
+        return Ok(None);
+    };
+    let Solved {
+        total,
+        certificate,
+        ..
+    } = both.columns;
+    match certificate {
+        Some(places) => Ok(Some((total, places))),
+        None => Ok(None),
+    }
 }

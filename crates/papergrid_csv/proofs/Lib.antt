@@ -1,5 +1,6 @@
 pub mod AlignedLemmas
 pub mod ApartLemmas
+pub mod CertifyLemmas
 pub mod CutLemmas
 pub mod CutTextLemmas
 pub mod DrawLemmas

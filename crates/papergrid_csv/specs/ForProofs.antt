@@ -5,4 +5,5 @@ pub mod Escapes
 pub mod Judging
 pub mod Places
 pub mod Read
+pub mod Solved
 pub mod Within

@@ -1,4 +1,5 @@
 -- Definitions: the table of a CSV or TSV text.
+pub mod Certified
 pub mod Cutting
 pub mod Judging
 pub mod Numbers

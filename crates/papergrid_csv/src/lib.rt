@@ -2,6 +2,7 @@
 #![tactic(auto)]
 
 mod aligned;
+mod certified;
 mod cutting;
 mod judging;
 pub mod laws;
@@ -16,9 +17,11 @@ mod style;
 mod widest;
 mod within;
 
+pub use certified::certify_csv;
 pub use cutting::cut;
 pub use reading::{Format, Reading, Rows, RowsError, read_rows};
 pub use request::{Alignment, ColumnName, Request, Span};
 pub use run::{CsvEnd, run_csv};
+pub use shown::cut_rows;
 pub use style::Style;
 pub use within::run_csv_within;

@@ -1,6 +1,6 @@
 //! The run of a CSV text: read to the end, judge, draw.
 
-ghost use Rattle.std.specs.Prelude.{◌≡◌, ◌≢◌, All, IfErr, List, MatchBool, MatchOption, OnOk, false, length, map, true};
+ghost use Rattle.std.specs.Prelude.{◌≡◌, ◌≢◌, All, IfErr, IfOk, List, MatchBool, MatchOption, OnOk, false, length, map, true};
 ghost use Rattle.papergrid_config.specs.Applied.{is_in_range};
 ghost use Rattle.papergrid_config.specs.History.{AppendsSettings};
 ghost use Rattle.papergrid_config.specs.declared.setting.Setting.{Setting};
@@ -10,7 +10,7 @@ ghost use Rattle.papergrid_draw.specs.Crossings.{FitCrossings, IsFitFault};
 ghost use Rattle.papergrid_draw.specs.Sinks.{IsRefusal};
 ghost use Rattle.papergrid_draw.specs.Pictures.{texts_drawing};
 ghost use Rattle.papergrid_script.specs.Runs.{Runs};
-ghost use Rattle.papergrid_csv.specs.Pictures.{IsCsvRun, IsNarrow, IsWide};
+ghost use Rattle.papergrid_csv.specs.Pictures.{IsConfigured, IsCsvRun, IsNarrow, IsUnfitted, IsWide};
 ghost use Rattle.papergrid_csv.specs.Requests.{settings_of};
 ghost use Rattle.papergrid_csv.specs.Rows.{row_texts, held_texts};
 ghost use Rattle.papergrid_csv.specs.declared.run.CsvEnd.TheVariants.{Drawn};
@@ -158,7 +158,7 @@ fn draw_shown<W: Sink>(
 }
 
 /// How a run ends that rows keep from their picture.
-fn judged(request: &Request, rows: &Rows<'_>) -> Option<CsvEnd>
+pub fn judged(request: &Request, rows: &Rows<'_>) -> Option<CsvEnd>
     ensures { MatchOption result (IsFree request.now (held_texts rows.now.rows))
         (IsKeptBy request.now (held_texts rows.now.rows)) }
 {
@@ -188,14 +188,33 @@ fn draw_records<W: Sink>(
         (IsSettingsRun request.now settings.items (length rows.now, columns) columns
         (map row_texts rows.now)) writer.old writer.new result }
 {
+    match configured(alloc, request, settings, (rows.len(), columns)) {
+        Ok(config) => draw_configured(alloc, request, &config, columns, rows, writer),
+        Err(error) => end_refused(error),
+    }
+}
+
+/// The configuration of a table of this shape by settings, with crossings that fit its spans, if they are to fit.
+pub fn configured(
+    alloc: Global,
+    request: &Request,
+    settings: Vec<Setting>,
+    shape: (usize, usize),
+) -> Result<SpannedConfig, DrawError>
+    requires { All (λ setting. is_in_range setting ≡ true) settings.items }
+    ensures ok { IfOk result (IsConfigured request.now settings.items shape) }
+    ensures err { IfErr result (λ e.
+        IsRefusal e → IsUnfitted request.now.junctions settings.items shape e) }
+    ensures works { IfErr result (λ e. e ≢ Write) }
+{
     history_decides();
     let mut config = SpannedConfig::new(alloc);
     if let Err(_) = config.apply_all(settings) {
-        return Err(RunFault::Memory);
+        return Err(DrawError::Memory(AllocError));
     }
-    match fit(alloc, &mut config, (rows.len(), columns), request.junctions) {
-        Ok(()) => draw_configured(alloc, request, &config, columns, rows, writer),
-        Err(error) => end_refused(error),
+    match fit(alloc, &mut config, shape, request.junctions) {
+        Ok(()) => Ok(config),
+        Err(error) => Err(error),
     }
 }
 

@@ -1,7 +1,7 @@
 //! What is said of a text that has no picture.
 
 use crate::places::{Spot, first_bad_byte, line_of_record, record_after, spot_after};
-use crate::sizes::{text_at, whole_rows};
+use crate::rows::{text_at, whole_rows};
 use crate::spans::{hider_of, last_at, overlap_at};
 use crate::values::{alignment_name, span_text};
 use crate::wide::too_wide;

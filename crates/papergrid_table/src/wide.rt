@@ -1,10 +1,10 @@
 //! What is said of a table that is wider than it may be.
 
 use crate::places::line_of_record;
-use crate::sizes::{certified, shown_rows, text_at};
+use crate::rows::{shown_rows, text_at};
 use bumpalo::Bump;
 use papergrid::util::string::get_text_width;
-use papergrid_csv::{Request, Rows};
+use papergrid_csv::{Request, Rows, certify_csv};
 use papergrid_layout::Solved;
 use papergrid_script::program::shown;
 use papergrid_values::Position;
@@ -45,7 +45,7 @@ fn add_what_helps(
     input: &[u8],
     (width, most): (usize, usize),
 ) -> Result<(), AllocError> {
-    match certified(alloc, request, input)? {
+    match certify_csv(alloc, request, input)? {
         Some(found) => {
             add_cells_and_cut(alloc, text, request, input, (&found.columns, width, most))
         }

@@ -1,8 +1,7 @@
 //! The cells that show why a table is no smaller.
 
-use crate::sizes::certified;
 use papergrid::{ReadSource, Sizing, WriteSink, run_keeping};
-use papergrid_csv::Request;
+use papergrid_csv::{Request, certify_csv};
 use papergrid_layout::{PerDirection, Solved};
 use papergrid_values::Position;
 use std::alloc::{AllocError, Global};
@@ -13,7 +12,7 @@ pub fn witness_of_text(
     request: &Request,
     input: &[u8],
 ) -> Result<String, AllocError> {
-    match certified(alloc, request, input)? {
+    match certify_csv(alloc, request, input)? {
         Some(found) => witness_of(alloc, &found),
         None => Ok(String::new(alloc)),
     }

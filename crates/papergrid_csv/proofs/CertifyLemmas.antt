@@ -1,0 +1,154 @@
+-- What is found of a table, of rows and of an input.
+use Rattle.std.proofs.Common.{Global, Vec, ◌≡◌, ◌≢◌, ◌∙◌, ℕ, List, [], Option, None, Some, Result, Ok, Err, ap, length, map, refl, subst, sym}
+use Rattle.std.specs.Prelude.{IfOk, MatchOption}
+use Rattle.std.specs.Borrow.{Bor}
+use Rattle.std.specs.declared.alloc.AllocError.{AllocError}
+use Rattle.std.proofs.lemmas.List.{length-map}
+use Rattle.papergrid_values.specs.declared.per_direction.PerDirection.{PerDirection}
+use Rattle.papergrid_tracks.specs.declared.error.LayoutError.{LayoutError}
+use Rattle.papergrid_tracks.specs.declared.error.LayoutError.TheVariants as layout_errors
+use Rattle.papergrid_tracks.specs.declared.sizing.Sizing.{Sizing}
+use Rattle.papergrid_tracks.specs.declared.solution.Solved.{Solved}
+use Rattle.papergrid_config.specs.Grids.{spanned_grid}
+use Rattle.papergrid_config.specs.declared.setting.Setting.{Setting}
+use Rattle.papergrid_config.specs.declared.spanned.SpannedConfig.{SpannedConfig}
+use Rattle.papergrid_walk.specs.Measures.{text_measure}
+use Rattle.papergrid_text.proofs.RowSteps.{told_by}
+use Rattle.papergrid_layout.specs.Answers.{HoldAlong, IsBothRefused, UnlessMemoryError}
+use Rattle.papergrid_layout.specs.Certificates.{IsCertifiedBy}
+use Rattle.papergrid_layout.proofs.Told.{both_told}
+use Rattle.papergrid_draw.specs.Errors.{draw_error_of}
+use Rattle.papergrid_draw.specs.Pictures.{Unsized}
+use Rattle.papergrid_draw.specs.Sinks.{IsRefusal}
+use Rattle.papergrid_draw.specs.declared.error.DrawError.{DrawError}
+use Rattle.papergrid_draw.specs.declared.error.DrawError.TheVariants as draw_errors
+use Rattle.papergrid_csv.specs.Certified.{HasNoSizes, IsCsvCertified}
+use Rattle.papergrid_csv.specs.Pictures.{IsCsvRun, IsUnfitted}
+use Rattle.papergrid_csv.specs.Requests.{settings_of}
+use Rattle.papergrid_csv.specs.Rows.{AreRowsOf, IsUnread, held_texts, row_texts}
+use Rattle.papergrid_csv.specs.Shown.{AreCut}
+use Rattle.papergrid_csv.specs.ForProofs.Drawn.{Crossed, Faulted, IsConfigRun, IsFree, IsKeptBy, IsRowsRun, IsSettingsRun, Kept}
+use Rattle.papergrid_csv.specs.ForProofs.Solved.{AreRowsSolved, AreSettingsSolved, unless_refused}
+use Rattle.papergrid_csv.specs.declared.reading.RowsError.{RowsError}
+use Rattle.papergrid_csv.specs.declared.reading.RowsError.TheVariants as rows_errors
+use Rattle.papergrid_csv.specs.declared.request.Request.{Request}
+use Rattle.papergrid_csv.specs.declared.run.CsvEnd.{CsvEnd}
+use Rattle.papergrid_csv.specs.declared.run.CsvEnd.TheVariants.{Drawn, Hides, NoColumn, NotText, Ragged, Refused, TooWide, Unclosed}
+use Rattle.papergrid_csv.proofs.CutTextLemmas.{shown-length}
+use Rattle.papergrid_csv.proofs.RunLemmas.{csv-run-of, rows-run-of}
+
+-- ---- an answer
+
+-- what follows of what is found, or of there being nothing
+pub found-also : {A E : Type 0} {P P2 : Type 0} {Q Q2 : A → Type 0} → (P → P2) → ((a : A) → Q a → Q2 a) → (result : Result (Option A) E) →
+    IfOk result (λ found. MatchOption found P Q) → IfOk result (λ found. MatchOption found P2 Q2)
+found-also none some (Ok None) so = none so
+found-also none some (Ok (Some a)) so = some a so
+found-also none some (Err e) so = tt
+
+-- no sizes, by another way to say how a run ends
+no-sizes-also : (IsSo IsAlso : CsvEnd → List ℕ → Type 0) → ((end : CsvEnd) (output : List ℕ) → IsSo end output → IsAlso end output) → HasNoSizes IsSo → HasNoSizes IsAlso
+no-sizes-also IsSo IsAlso follows so = (so.0, so.1, follows so.0 [] so.2)
+
+-- ---- a configuration
+
+module _ {A B R : Type 0} (seen : A → B) (text : B → List ℕ) (items : R → List B) (config : SpannedConfig) (sizing : Sizing)
+    {many columns : ℕ} (counted : many ≡ columns) {given rows : List R} (same : given ≡ rows) where
+  abbrev texts : List (List (List ℕ))
+  texts = map (λ row. map text (items row)) rows
+
+  -- what is found of rows that are told is found of their texts
+  pub solved-told : (found : PerDirection Solved) →
+      ((cells : List (List A)) × (map (map seen) cells ≡ map items given)
+      × HoldAlong (spanned_grid config) (λ x. text_measure (text (seen x))) many cells (IsCertifiedBy sizing) found.columns found.rows) →
+      HoldAlong (spanned_grid config) text_measure columns texts (IsCertifiedBy sizing) found.columns found.rows
+  solved-told found told =
+      let are = told_by seen text items told.0 given told.1 ∙ ap (map (λ row. map text (items row))) same in
+      subst (λ n. HoldAlong (spanned_grid config) text_measure n texts (IsCertifiedBy sizing) found.columns found.rows) counted
+      (both_told (spanned_grid config) (λ x. text (seen x)) text_measure told.0 texts are many (IsCertifiedBy sizing) found.columns found.rows told.2)
+
+pub unsized-none : (Q : PerDirection Solved → Type 0) (request : Request) (columns : ℕ) (rows : List (List (List ℕ))) (config : SpannedConfig) (e : LayoutError) →
+    UnlessMemoryError e (IsBothRefused (spanned_grid config) text_measure columns rows request.sizing e) →
+    IfOk (unless_refused (draw_error_of e)) (λ found. MatchOption found (HasNoSizes (IsConfigRun request columns rows config)) Q)
+unsized-none Q request columns rows config (layout_errors.OutOfTable p) are =
+    (Refused (draw_errors.OutOfTable p), refl, Faulted (draw_errors.OutOfTable p) refl tt (Unsized (layout_errors.OutOfTable p) refl are) refl)
+unsized-none Q request columns rows config layout_errors.TooLarge are = (Refused draw_errors.TooLarge, refl, Faulted draw_errors.TooLarge refl tt (Unsized layout_errors.TooLarge refl are) refl)
+unsized-none Q request columns rows config (layout_errors.Memory e) are = tt
+
+-- ---- settings
+
+module _ (request : Request) (settings : List Setting) (shape : ℕ × ℕ) (columns : ℕ) (texts : List (List (List ℕ))) (Q : PerDirection Solved → Type 0) where
+  abbrev IsNone : DrawError → Type 0
+  IsNone e = IfOk (unless_refused e) (λ found. MatchOption found (HasNoSizes (IsSettingsRun request settings shape columns texts)) Q)
+
+  pub unfitted-none : (e : DrawError) → e ≢ draw_errors.Write → (IsRefusal e → IsUnfitted request.junctions settings shape e) → IsNone e
+  unfitted-none (draw_errors.OutOfTable p) works so = (Refused (draw_errors.OutOfTable p), refl, Crossed (draw_errors.OutOfTable p) refl tt (so tt) refl)
+  unfitted-none (draw_errors.NotTiled p) works so = (Refused (draw_errors.NotTiled p), refl, Crossed (draw_errors.NotTiled p) refl tt (so tt) refl)
+  unfitted-none (draw_errors.NoRoom p) works so = (Refused (draw_errors.NoRoom p), refl, Crossed (draw_errors.NoRoom p) refl tt (so tt) refl)
+  unfitted-none draw_errors.TooLarge works so = (Refused draw_errors.TooLarge, refl, Crossed draw_errors.TooLarge refl tt (so tt) refl)
+  unfitted-none (draw_errors.Memory e) works so = tt
+  unfitted-none draw_errors.Write works so = absurd (works refl)
+
+-- ---- rows
+
+pub kept-none : (request : Request) (columns : ℕ) (rows : List (List (List ℕ))) (end : CsvEnd) → IsKeptBy request rows end → HasNoSizes (IsRowsRun request columns rows)
+kept-none request columns rows (NoColumn entry) kept = (NoColumn entry, refl, Kept kept refl)
+kept-none request columns rows (Hides p) kept = (Hides p, refl, Kept kept refl)
+kept-none request columns rows Drawn kept = absurd kept
+kept-none request columns rows (Refused e) kept = absurd kept
+kept-none request columns rows (TooWide width) kept = absurd kept
+kept-none request columns rows (NotText count) kept = absurd kept
+kept-none request columns rows (Unclosed count) kept = absurd kept
+kept-none request columns rows (Ragged count fields) kept = absurd kept
+
+-- by rows that are lent
+module _ (request : Request) (columns : ℕ) (rows : List (List (List ℕ))) (free : IsFree request rows) (held : Vec (Vec (Bor (List ℕ)) Global) Global) (cut : AreCut request.cut rows (held_texts held))
+    (lent : List (Vec (Bor (List ℕ)) Global)) (same_rows : lent ≡ held.items) where
+  abbrev settings : List Setting
+  settings = settings_of request columns rows
+
+  rows-solved : (found : PerDirection Solved) → AreSettingsSolved request settings (length lent, columns) columns (map row_texts lent) found → AreRowsSolved request columns rows found
+  rows-solved found so =
+      let same : map row_texts lent ≡ held_texts held = ap (map row_texts) same_rows in
+      let counted : length lent ≡ length rows = sym (length-map lent row_texts) ∙ ap length same ∙ shown-length request.cut rows (held_texts held) cut in
+      let by_shape = subst (λ n. AreSettingsSolved request settings (n, columns) columns (map row_texts lent) found) counted so in
+      (held_texts held, free, cut, subst (λ t. AreSettingsSolved request settings (length rows, columns) columns t found) same by_shape)
+
+  pub rows-found : (result : Result (Option (PerDirection Solved)) AllocError) →
+      IfOk result (λ found. MatchOption found (HasNoSizes (IsSettingsRun request settings (length lent, columns) columns (map row_texts lent)))
+      (AreSettingsSolved request settings (length lent, columns) columns (map row_texts lent))) →
+      IfOk result (λ found. MatchOption found (HasNoSizes (IsRowsRun request columns rows)) (AreRowsSolved request columns rows))
+  rows-found result so = found-also
+      (no-sizes-also (IsSettingsRun request settings (length lent, columns) columns (map row_texts lent)) (IsRowsRun request columns rows) (rows-run-of request columns rows free held cut lent same_rows))
+      rows-solved result so
+
+-- ---- an input
+
+module _ (request : Request) (input : List ℕ) where
+  unread-none : (e : RowsError) → e ≢ rows_errors.Memory → IsUnread request.reading input e → HasNoSizes (IsCsvRun request input)
+  unread-none (rows_errors.NotText count) named is = (NotText count, refl, (is, refl))
+  unread-none (rows_errors.Unclosed count) named is = (Unclosed count, refl, (is, refl))
+  unread-none (rows_errors.Ragged count fields) named is = (Ragged count fields, refl, (is, refl))
+  unread-none rows_errors.Memory named is = absurd (named refl)
+
+  pub unread-found : (e : RowsError) → IsUnread request.reading input e → (result : Result (Option (PerDirection Solved)) AllocError) →
+      IfOk result (λ found. (found ≡ None) × (e ≢ rows_errors.Memory)) → IfOk result (λ found. MatchOption found (HasNoSizes (IsCsvRun request input)) (IsCsvCertified request input))
+  unread-found e is (Ok None) so = unread-none e so.1 is
+  unread-found e is (Ok (Some found)) so = absurd (let none = so.0 in let no : ⊥ = cc in no)
+  unread-found e is (Err error) so = tt
+
+pub csv-found : (request : Request) (input : List ℕ) (columns : ℕ) (rows : List (List (List ℕ))) → AreRowsOf request.reading input columns rows → (result : Result (Option (PerDirection Solved)) AllocError) →
+    IfOk result (λ found. MatchOption found (HasNoSizes (IsRowsRun request columns rows)) (AreRowsSolved request columns rows)) →
+    IfOk result (λ found. MatchOption found (HasNoSizes (IsCsvRun request input)) (IsCsvCertified request input))
+csv-found request input columns rows are result so = found-also
+    (no-sizes-also (IsRowsRun request columns rows) (IsCsvRun request input) (csv-run-of request input columns rows are)) certified result so
+  where
+    certified : (found : PerDirection Solved) → AreRowsSolved request columns rows found → IsCsvCertified request input found
+    certified found solved =
+        let (shown, free, cut, so) = solved in
+        record {
+          table = record { columns = columns; rows = rows; shown = shown; are = are; named = free.named; seen = free.seen; cut = cut };
+          config = so.0;
+          configured = so.1;
+          certified = so.2;
+        }

@@ -1,0 +1,39 @@
+//! The rows of a text, as messages name them.
+
+use bumpalo::Bump;
+use papergrid_csv::{Request, Rows, RowsError, cut_rows, read_rows};
+use papergrid_values::Position;
+use std::alloc::{AllocError, Global};
+
+/// The rows of a text, each field cut where that is asked, if it has any.
+pub fn shown_rows<'t>(
+    alloc: Global,
+    texts: &'t Bump,
+    request: &Request,
+    input: &[u8],
+) -> Result<Option<Rows<'t>>, AllocError> {
+    let mut shown = whole_rows(alloc, texts, request, input)?;
+    if let (Some(rows), Some(columns)) = (&mut shown, request.cut) {
+        rows.rows = cut_rows(alloc, texts, columns, &rows.rows)?;
+    }
+    Ok(shown)
+}
+
+/// The rows of a text, each field whole, if it has any.
+pub fn whole_rows<'t>(
+    alloc: Global,
+    texts: &'t Bump,
+    request: &Request,
+    input: &[u8],
+) -> Result<Option<Rows<'t>>, AllocError> {
+    match read_rows(alloc, texts, request.reading, input) {
+        Ok(rows) => Ok(Some(rows)),
+        Err(RowsError::Memory) => Err(AllocError),
+        Err(_) => Ok(None),
+    }
+}
+
+/// The text at a position, where its row has one.
+pub fn text_at<'r>(rows: &Rows<'r>, position: Position) -> Option<&'r str> {
+    rows.rows.get(position.row)?.get(position.col).copied()
+}
