@@ -15,7 +15,7 @@ ghost use Rattle.papergrid_checks.specs.Written.{AppendsBeginning};
 
 use papergrid::{ByteSink, ReadSource, RunFault, Sink};
 use papergrid_csv::{Alignment, CsvEnd, Request, Style, certify_csv, run_csv, run_csv_within};
-use papergrid_layout::Solved;
+use papergrid_layout::{PerDirection, Solved};
 use papergrid_values::Position;
 use std::alloc::{AllocError, Global};
 
@@ -102,11 +102,12 @@ pub fn csv_width(
     let Some(both) = certify_csv(alloc, request, text)? else {
         return Ok(None);
     };
+    let PerDirection { columns, .. } = both;
     let Solved {
         total,
         certificate,
         ..
-    } = both.columns;
+    } = columns;
     match certificate {
         Some(places) => Ok(Some((total, places))),
         None => Ok(None),
