@@ -40,7 +40,8 @@ is_quoted states.InQuoted = true
 is_quoted states.AfterQuote = true
 is_quoted state = false
 
--- the quote after so many bytes is the one: what stands before it ends outside of quotes, and what is longer does not
+-- the quote after so many bytes is not closed: what stands before it ends outside of quotes, and each longer beginning of
+-- the text ends within them
 pub record IsUnclosedFrom (reading : Reading) (input : List ℕ) (count : ℕ) : Type 0 where
   pub unclosed : IsUnclosed reading input
   -- how many they are without a byte order mark

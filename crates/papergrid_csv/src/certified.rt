@@ -1,6 +1,6 @@
 //! The sizes of the table of a CSV text, and the cells that certify them.
 
-ghost use Rattle.std.specs.Prelude.{◌≡◌, All, IfOk, MatchOption, length, map, true, ◌≢◌, None, ℕ};
+ghost use Rattle.std.specs.Prelude.{◌≡◌, ◌≢◌, All, IfOk, MatchOption, length, map, true, None, ℕ};
 ghost use Rattle.papergrid_config.specs.Applied.{is_in_range};
 ghost use Rattle.papergrid_csv.specs.Certified.{HasNoSizes, IsCsvCertified};
 ghost use Rattle.papergrid_csv.specs.Pictures.{IsCsvRun};
@@ -25,6 +25,10 @@ use std::alloc::{AllocError, Global};
 /// The sizes of the table of a CSV text, and the cells that certify them: of the columns the widths, in columns of a terminal, and
 /// of the rows the heights, in lines. They are those of the table that `run_csv` draws, by the sizing of the request. The
 /// table may be wider than the request allows. There are none where `run_csv` ends otherwise than with `Drawn` or `TooWide`.
+///
+/// # Errors
+///
+/// `AllocError` where a growth is refused.
 pub fn certify_csv(
     alloc: Global,
     request: &Request,

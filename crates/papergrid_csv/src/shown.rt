@@ -9,7 +9,11 @@ use crate::cutting::cut;
 use bumpalo::Bump;
 use std::alloc::{AllocError, Global};
 
-/// The rows with each field cut to so many columns.
+/// The rows with each field cut to so many columns of a terminal, as by `cut`, in an arena.
+///
+/// # Errors
+///
+/// `AllocError` where a growth is refused.
 pub fn cut_rows<'t>(
     alloc: Global,
     texts: &'t Bump,

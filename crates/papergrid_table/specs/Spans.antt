@@ -24,11 +24,11 @@ last_span p spans = find (is_span_of p) (reverse spans)
 abbrev pub hiding_span : Position → List Span → Option Span
 hiding_span p spans = find (is_over_other p p) spans
 
--- the first span over a position, and before it the first one of another cell than that span's
+-- of a first span over a position: the first one over it of another cell, and that
 abbrev pub second_span : Position → List Span → Option Span → Option (Span × Span)
 second_span p spans None = None
 second_span p spans (Some first) = option_map (λ second. (second, first)) (find (is_over_other p first.position) spans)
 
--- two spans of different cells over a position: the later one, and the first one of all
+-- two spans of different cells over a position: the first one, behind the next of another cell
 abbrev pub overlapping_spans : Position → List Span → Option (Span × Span)
 overlapping_spans p spans = second_span p spans (find (is_over p) spans)
