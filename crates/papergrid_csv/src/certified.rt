@@ -24,7 +24,8 @@ use std::alloc::{AllocError, Global};
 
 /// The sizes of the table of a CSV text, and the cells that certify them: of the columns the widths, in columns of a terminal, and
 /// of the rows the heights, in lines. They are those of the table that `run_csv` draws, by the sizing of the request. The
-/// table may be wider than the request allows. There are none where `run_csv` ends otherwise than with `Drawn` or `TooWide`.
+/// table may be wider than the request allows. There are none only where `run_csv` ends otherwise than with `Drawn` or
+/// `TooWide`. Spans that do not tile the table keep it from its picture, but not always from sizes.
 ///
 /// # Errors
 ///
@@ -54,7 +55,7 @@ fn unless_unread(error: RowsError) -> Result<Option<PerDirection<Solved>>, Alloc
     }
 }
 
-/// The same of rows.
+/// The sizes of a table of rows, and the cells that certify them, if it has any.
 fn certify_rows(
     alloc: Global,
     request: &Request,
