@@ -120,11 +120,17 @@ pub fn run_table<S: Source, W: Sink>(
         (λ output. (end : RunEnd) × IsPictureRun sizing input.new.items end output) result }
 {
     *input = read_all(alloc, reader)?;
-    draw_input(alloc, sizing, input.as_slice(), writer)
+    draw_script(alloc, sizing, input.as_slice(), writer)
 }
 
-/// Writes the picture of the table that an input tells, or why it has none.
-fn draw_input<W: Sink>(
+/// Writes the lines of the picture of the table that a script tells, or why it has none. Each line ends with a line feed.
+/// Nothing is written before the whole script was read and judged.
+///
+/// # Errors
+///
+/// `Write` where the writer fails or takes no byte of a piece that isn't empty, and `Memory` where a growth is refused, after a
+/// beginning of the output was written, which may be nothing. No failed call is tried again. `Read` never comes.
+pub fn draw_script<W: Sink>(
     alloc: Global,
     sizing: Sizing,
     input: &[u8],
@@ -139,7 +145,7 @@ fn draw_input<W: Sink>(
         Err(ScriptError::Bad(number)) => {
             say(writer, RunEnd::BadScript, bad_script_text(alloc, number)?)
         }
-        Ok(script) => draw_script(alloc, sizing, script, writer),
+        Ok(script) => draw_read(alloc, sizing, script, writer),
     }
 }
 
@@ -154,8 +160,8 @@ fn say<W: Sink>(writer: &mut W, end: RunEnd, text: Vec<u8>) -> Result<RunEnd, Ru
     }
 }
 
-/// Writes the picture of the table that a script tells, or why it has none.
-fn draw_script<W: Sink>(
+/// Writes the picture of the table of a script that was read, or why it has none.
+fn draw_read<W: Sink>(
     alloc: Global,
     sizing: Sizing,
     script: Script<'_>,

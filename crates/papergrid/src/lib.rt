@@ -15,7 +15,7 @@ mod running;
 mod sized;
 mod table_layout;
 
-pub use drawing::{draw, run_table};
+pub use drawing::{draw, draw_script, run_table};
 pub use papergrid_layout::{Sizing, Table};
 pub use papergrid_script::answer::RunEnd;
 pub use papergrid_script::explained::{Reason, explain};

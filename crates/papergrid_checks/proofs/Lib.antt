@@ -1,5 +1,5 @@
 pub mod AnswerLemmas
-pub mod BegunLemmas
+pub mod CsvLemmas
 pub mod CertificateLemmas
 pub mod DocumentLemmas
 pub mod RowLemmas

@@ -1,6 +1,6 @@
 //! Tables of CSV texts.
 
-ghost use Rattle.std.specs.Prelude.{◌≡◌, ◌⊎◌, IfOk, IfSome, IsErrOf, IsSome, List, OnErr, OnOk, Some, false, true, ℕ};
+ghost use Rattle.std.specs.Prelude.{◌≡◌, ◌⊎◌, IfOk, IfSome, IsErrOf, IsSome, List, OnErr, Some, false, true, ℕ};
 ghost use Rattle.std.specs.Io.KnownBytes.{Appends};
 ghost use Rattle.papergrid_values.specs.declared.per_direction.PerDirection.{PerDirection};
 ghost use Rattle.papergrid_tracks.specs.declared.solution.Solved.{Solved};
@@ -13,8 +13,8 @@ ghost use Rattle.papergrid_csv.specs.declared.run.CsvEnd.TheVariants.{Drawn};
 ghost use Rattle.papergrid_csv.specs.declared.style.Style.TheVariants.{Plain};
 ghost use Rattle.papergrid_checks.specs.Written.{AppendsBeginning};
 
-use papergrid::{ByteSink, ReadSource, RunFault, Sink};
-use papergrid_csv::{Alignment, CsvEnd, Request, Style, certify_csv, run_csv, run_csv_within};
+use papergrid::{ByteSink, RunFault, Sink, Source, read_all};
+use papergrid_csv::{Alignment, CsvEnd, Request, Style, certify_csv, draw_csv, draw_csv_within};
 use papergrid_layout::{PerDirection, Solved};
 use papergrid_values::Position;
 use std::alloc::{AllocError, Global};
@@ -30,49 +30,24 @@ pub fn aligned(alloc: Global, style: Style) -> Request
     request
 }
 
-/// Writes the table of a CSV text by a request, and tells how that ended. Condition: the writer has not failed.
-pub fn csv_table<W: Sink>(
+/// Reads a CSV text to its end, writes its table by a request, and tells how that ended.
+pub fn csv_table<S: Source, W: Sink>(
     alloc: Global,
     request: &Request,
-    text: &[u8],
+    reader: &mut S,
     writer: &mut W,
 ) -> Result<CsvEnd, RunFault>
-    requires { W.has_failed writer.old ≡ false }
-    ensures written { IfOk result (λ end. (output : List ℕ)
-        × IsCsvRun request.now text.now end output
-        × Appends (W.contents writer.old) (W.contents writer.new) output) }
-    ensures beginning { OnErr result (AppendsBeginning (IsCsvRun request.now text.now Drawn)
-        (W.contents writer.old) (W.contents writer.new)) }
+    ensures written { IfOk result (λ end. IfSome (S.remaining reader.old) (λ text.
+        (output : List ℕ) × IsCsvRun request.now text end output
+        × Appends (W.contents writer.old) (W.contents writer.new) output)) }
+    ensures beginning { OnErr result (IfSome (S.remaining reader.old) (λ text.
+        AppendsBeginning (IsCsvRun request.now text Drawn)
+        (W.contents writer.old) (W.contents writer.new))) }
     ensures write { IsErrOf result RunFault.Write → (W.has_failed writer.new ≡ true)
         ⊎ (W.has_stalled writer.old ≡ false → W.has_stalled writer.new ≡ true) }
 {
-    let mut reader = ReadSource::new(text);
-    let mut input = Vec::new(alloc);
-    run_csv(alloc, request, &mut reader, writer, &mut input)
-}
-
-/// The same with each field cut, where the table is wider than so many columns. The request has the cut that was found then.
-pub fn csv_table_within<W: Sink>(
-    alloc: Global,
-    width: usize,
-    request: &mut Request,
-    text: &[u8],
-    writer: &mut W,
-) -> Result<CsvEnd, RunFault>
-    requires { W.has_failed writer.old ≡ false }
-    ensures written { IfOk result (λ end. (output : List ℕ)
-        × IsRunWithin request.old width text.now request.new.cut end output
-        × Appends (W.contents writer.old) (W.contents writer.new) output) }
-    ensures request { OnOk result (request.new ≡ cut_request request.old width request.new.cut) }
-    ensures beginning { OnErr result (AppendsBeginning
-        (IsRunWithin request.old width text.now request.new.cut Drawn)
-        (W.contents writer.old) (W.contents writer.new)) }
-    ensures write { IsErrOf result RunFault.Write → (W.has_failed writer.new ≡ true)
-        ⊎ (W.has_stalled writer.old ≡ false → W.has_stalled writer.new ≡ true) }
-{
-    let mut reader = ReadSource::new(text);
-    let mut input = Vec::new(alloc);
-    run_csv_within(alloc, width, request, &mut reader, writer, &mut input)
+    let text = read_all(alloc, reader)?;
+    draw_csv(alloc, request, text.as_slice(), writer)
 }
 
 /// The table of a CSV text by a request, in memory, and how that ended.
@@ -84,7 +59,23 @@ pub fn csv_table_in_memory(
     ensures { IfOk result (λ drawn. IsCsvRun request.now text.now drawn.0 drawn.1.items) }
 {
     let mut sink = ByteSink::new(alloc);
-    let end = csv_table(alloc, request, text, &mut sink)?;
+    let end = draw_csv(alloc, request, text, &mut sink)?;
+    Ok((end, sink.into_bytes()))
+}
+
+/// The same with each field cut, where the table is wider than so many columns. The request has the cut that was found then.
+pub fn csv_table_within(
+    alloc: Global,
+    width: usize,
+    request: &mut Request,
+    text: &[u8],
+) -> Result<(CsvEnd, Vec<u8>), RunFault>
+    ensures drawn { IfOk result (λ drawn.
+        IsRunWithin request.old width text.now request.new.cut drawn.0 drawn.1.items) }
+    ensures request { request.new ≡ cut_request request.old width request.new.cut }
+{
+    let mut sink = ByteSink::new(alloc);
+    let end = draw_csv_within(alloc, width, request, text, &mut sink)?;
     Ok((end, sink.into_bytes()))
 }
 

@@ -99,7 +99,7 @@ kept-none request columns rows (Refused e) kept = absurd kept
 kept-none request columns rows (TooWide width) kept = absurd kept
 kept-none request columns rows (NotText count) kept = absurd kept
 kept-none request columns rows (Unclosed count) kept = absurd kept
-kept-none request columns rows (Ragged count fields) kept = absurd kept
+kept-none request columns rows (Ragged count fields first) kept = absurd kept
 
 -- by rows that are lent
 module _ (request : Request) (columns : ℕ) (rows : List (List (List ℕ))) (free : IsFree request rows) (held : Vec (Vec (Bor (List ℕ)) Global) Global) (cut : AreCut request.cut rows (held_texts held))
@@ -128,7 +128,7 @@ module _ (request : Request) (input : List ℕ) where
   unread-none : (e : RowsError) → e ≢ rows_errors.Memory → IsUnread request.reading input e → HasNoSizes (IsCsvRun request input)
   unread-none (rows_errors.NotText count) named is = (NotText count, refl, (is, refl))
   unread-none (rows_errors.Unclosed count) named is = (Unclosed count, refl, (is, refl))
-  unread-none (rows_errors.Ragged count fields) named is = (Ragged count fields, refl, (is, refl))
+  unread-none (rows_errors.Ragged count fields first) named is = (Ragged count fields first, refl, (is, refl))
   unread-none rows_errors.Memory named is = absurd (named refl)
 
   pub unread-found : (e : RowsError) → IsUnread request.reading input e → (result : Result (Option (PerDirection Solved)) AllocError) →

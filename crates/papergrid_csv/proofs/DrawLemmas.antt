@@ -6,14 +6,15 @@ use Rattle.papergrid_draw.specs.Sinks.{IsCutOff, IsRefusal}
 use Rattle.papergrid_script.specs.Writing.{IsBrokenOff}
 use Rattle.papergrid_script.specs.declared.reading.RunFault.TheVariants as run_faults
 use Rattle.papergrid_draw.proofs.SinkLemmas.{taken-none}
-use Rattle.papergrid_csv.specs.ForProofs.Drawn.{IsPictured, RunsCsv, end_refused}
+use Rattle.papergrid_csv.specs.Pictures.{IsPictured, WritesCsv}
+use Rattle.papergrid_csv.specs.ForProofs.Drawn.{end_refused}
 use Rattle.papergrid_csv.specs.declared.run.CsvEnd.{CsvEnd}
 use Rattle.papergrid_csv.specs.declared.run.CsvEnd.TheVariants.{Drawn, Refused}
 
 module _ {W : Type 0} (contents : W → Option (List ℕ)) (has_failed has_stalled : W → Bool) where
   module _ (IsSo : CsvEnd → List ℕ → Type 0) where
     -- nothing was written, as it should be
-    pub run-silent : (w : W) (end : CsvEnd) → IsSo end [] → RunsCsv contents has_failed has_stalled IsSo w w (Ok end)
+    pub run-silent : (w : W) (end : CsvEnd) → IsSo end [] → WritesCsv contents has_failed has_stalled IsSo w w (Ok end)
     run-silent w end so = ([], so, record { taken = taken-none contents has_failed has_stalled w; silent = λ _. refl })
 
     -- memory was refused before
@@ -26,7 +27,7 @@ module _ {W : Type 0} (contents : W → Option (List ℕ)) (has_failed has_stall
     }
 
     -- an error came before anything was written
-    pub run-refused : (w : W) (e : DrawError) → e ≢ draw_errors.Write → (IsRefusal e → IsSo (Refused e) []) → RunsCsv contents has_failed has_stalled IsSo w w (end_refused e)
+    pub run-refused : (w : W) (e : DrawError) → e ≢ draw_errors.Write → (IsRefusal e → IsSo (Refused e) []) → WritesCsv contents has_failed has_stalled IsSo w w (end_refused e)
     run-refused w (draw_errors.OutOfTable p) works so = run-silent w (Refused (draw_errors.OutOfTable p)) (so tt)
     run-refused w (draw_errors.NotTiled p) works so = run-silent w (Refused (draw_errors.NotTiled p)) (so tt)
     run-refused w (draw_errors.NoRoom p) works so = run-silent w (Refused (draw_errors.NoRoom p)) (so tt)
@@ -36,11 +37,11 @@ module _ {W : Type 0} (contents : W → Option (List ℕ)) (has_failed has_stall
 
     -- a picture broke off, or none of it was written
     module _ (old new : W) (output : List ℕ) (drawn : IsSo Drawn output) where
-      refused : (e : DrawError) → new ≡ old → IsSo (Refused e) [] → RunsCsv contents has_failed has_stalled IsSo old new (Ok (Refused e))
-      refused e same so = subst (λ w. RunsCsv contents has_failed has_stalled IsSo old w (Ok (Refused e))) (sym same) (run-silent old (Refused e) so)
+      refused : (e : DrawError) → new ≡ old → IsSo (Refused e) [] → WritesCsv contents has_failed has_stalled IsSo old new (Ok (Refused e))
+      refused e same so = subst (λ w. WritesCsv contents has_failed has_stalled IsSo old w (Ok (Refused e))) (sym same) (run-silent old (Refused e) so)
 
       pub run-undrawn : (e : DrawError) → (IsRefusal e → IsSo (Refused e) []) → IsCutOff contents has_failed has_stalled old output new e →
-          RunsCsv contents has_failed has_stalled IsSo old new (end_refused e)
+          WritesCsv contents has_failed has_stalled IsSo old new (end_refused e)
       run-undrawn (draw_errors.OutOfTable p) so left = refused (draw_errors.OutOfTable p) (left.nothing tt) (so tt)
       run-undrawn (draw_errors.NotTiled p) so left = refused (draw_errors.NotTiled p) (left.nothing tt) (so tt)
       run-undrawn (draw_errors.NoRoom p) so left = refused (draw_errors.NoRoom p) (left.nothing tt) (so tt)

@@ -16,6 +16,7 @@ pub mod RunLemmas
 pub mod SeparatingLemmas
 pub mod ShownLemmas
 pub mod SpellingLemmas
+pub mod StartLemmas
 pub mod StyleLemmas
 pub mod TableLemmas
 pub mod WideLemmas

@@ -20,7 +20,7 @@ use Rattle.csv.specs.declared.parser.State.{State}
 use Rattle.csv.specs.declared.parser.State.TheVariants as states
 use Rattle.csv.specs.declared.reader.Reader.{Reader}
 use Rattle.csv.proofs.ReadFacts.{rows-end, rows-more}
-use Rattle.papergrid_csv.specs.Rows.{AllAsLong, AreRowsOf, IsNextRecord, IsUnclosed, IsUnread, config_by, config_of, with_empty_fields, greatest_length, row_texts}
+use Rattle.papergrid_csv.specs.Rows.{AllAsLong, AreRowsOf, IsNextRecord, IsUnclosed, IsUnread, config_by, config_of, with_empty_fields, first_length, greatest_length, row_texts}
 use Rattle.papergrid_csv.specs.Spelling.{spelled}
 use Rattle.papergrid_csv.specs.ForProofs.Read.{AreShownFields, AreShownFirst, has_other_length, unread_of}
 use Rattle.papergrid_csv.specs.declared.reading.Format.{Format}
@@ -75,6 +75,10 @@ long-more f (first ∷ records) fields long same =
     let counted = length-map first f in
     let as_long : length fields ≡ length first = grind (arith, nat_tests) in
     long-push first fields records long as_long
+
+first-map : (f : List ℕ → List ℕ) (records : List (List (List ℕ))) → first_length (map (map f) records) ≡ first_length records
+first-map f [] = refl
+first-map f (first ∷ records) = length-map first f
 
 last-of : {X : Type 0} (P : X → Type 0) (xs : List X) (x : X) → All P (xs ++ x ∷ []) → P x
 last-of P [] x all = All-head P x [] all
@@ -157,10 +161,13 @@ module _ {R : Type 0} (rem : R → Option (List ℕ)) (reading : Reading) (input
   counted : length shown ≡ length first.records
   counted = ap length first.are ∙ length-map first.records (map (spelled reading))
 
+  first-shown : first_length shown ≡ first_length first.records
+  first-shown = ap first_length first.are ∙ first-map (spelled reading) first.records
+
   -- it has another number of fields
-  pub shown-ragged : (fields : List (List ℕ)) (ragged : Bool) (before field_count : ℕ) → ReadRecord rem old new true fields → AllText fields →
-      ragged ≡ (reading.strict && has_other_length shown fields) → ragged ≡ true → before ≡ length shown → field_count ≡ length fields → IsUnread reading input (Ragged before field_count)
-  shown-ragged fields ragged before field_count read text told odd is_before is_count =
+  pub shown-ragged : (fields : List (List ℕ)) (ragged : Bool) (before field_count first_count : ℕ) → ReadRecord rem old new true fields → AllText fields →
+      ragged ≡ (reading.strict && has_other_length shown fields) → ragged ≡ true → before ≡ length shown → field_count ≡ length fields → first_count ≡ first_length shown → IsUnread reading input (Ragged before field_count first_count)
+  shown-ragged fields ragged before field_count first_count read text told odd is_before is_count is_first =
       let next = read-next (config_of reading) old.state new.state y (pending_of (rem new.rdr) new) true fields (rw (config, source) at read.0) refl in
       let both = and_parts reading.strict (has_other_length shown fields) (sym told ∙ odd) in
       record {
@@ -169,6 +176,7 @@ module _ {R : Type 0} (rem : R → Option (List ℕ)) (reading : Reading) (input
         fields = fields;
         counted = is_before ∙ counted;
         fields_counted = is_count;
+        first_counted = is_first ∙ first-shown;
         next = next-found next.0 fields next.1 next.2;
         is_text = text;
         is_ragged = not-long (spelled reading) first.records fields (ap (λ r. has_other_length r fields) (sym first.are) ∙ both.1);

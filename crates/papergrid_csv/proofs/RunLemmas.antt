@@ -19,11 +19,11 @@ use Rattle.papergrid_walk.specs.Measures.{text_measure}
 use Rattle.papergrid_config.specs.Laws.{IsConfiguredBy}
 use Rattle.papergrid_draw.specs.Sinks.{IsRefusal}
 use Rattle.papergrid_draw.specs.Pictures.{IsDrawingWith, Undrawn, Unsized}
-use Rattle.papergrid_csv.specs.Pictures.{AreFitted, Faulty, IsCsvRun, IsCsvTable, IsConfigured, IsUnfitted, Unfitted}
+use Rattle.papergrid_csv.specs.Pictures.{AreFitted, Faulty, IsConfigured, IsCsvRun, IsCsvTable, IsUnfitted, Unfitted, WritesCsv}
 use Rattle.papergrid_csv.specs.Requests.{settings_of}
 use Rattle.papergrid_csv.specs.Rows.{AreRowsOf, IsUnread, row_texts, held_texts}
 use Rattle.papergrid_csv.specs.Shown.{AreCut}
-use Rattle.papergrid_csv.specs.ForProofs.Drawn.{AreFittingOf, Configured, Crossed, Faulted, Free, IsConfigRun, IsFitFaultOf, IsFree, IsKeptBy, IsRowsRun, IsSettingsRun, IsTableRun, Kept, RunsCsv, Sized, end_refused, end_unread}
+use Rattle.papergrid_csv.specs.ForProofs.Drawn.{AreFittingOf, Configured, Crossed, Faulted, Free, IsConfigRun, IsFitFaultOf, IsFree, IsKeptBy, IsRowsRun, IsSettingsRun, IsTableRun, Kept, Sized, end_refused, end_unread}
 use Rattle.papergrid_csv.specs.declared.reading.RowsError.{RowsError}
 use Rattle.papergrid_csv.specs.declared.reading.RowsError.TheVariants as rows_errors
 use Rattle.papergrid_csv.specs.declared.request.Request.{Request}
@@ -48,7 +48,7 @@ module _ {W : Type 0} (contents : W → Option (List ℕ)) (has_failed has_stall
   -- rows have no sizes
   pub unsized-run : (request : Request) (columns : ℕ) (texts : List (List (List ℕ))) (config : SpannedConfig) (w : W) (e : LayoutError) →
       UnlessMemoryError e (IsBothRefused (spanned_grid config) text_measure columns texts request.sizing e) →
-      RunsCsv contents has_failed has_stalled (IsConfigRun request columns texts config) w w (end_refused (draw_error_of e))
+      WritesCsv contents has_failed has_stalled (IsConfigRun request columns texts config) w w (end_refused (draw_error_of e))
   unsized-run request columns texts config w (layout_errors.OutOfTable p) are =
       run-silent contents has_failed has_stalled (IsConfigRun request columns texts config) w (Refused (draw_errors.OutOfTable p))
       (Faulted (draw_errors.OutOfTable p) refl tt (Unsized (layout_errors.OutOfTable p) refl are) refl)
@@ -59,10 +59,10 @@ module _ {W : Type 0} (contents : W → Option (List ℕ)) (has_failed has_stall
 
   -- an input was not read
   pub unread-run : (request : Request) (input : List ℕ) (w : W) (e : RowsError) → IsUnread request.reading input e →
-      RunsCsv contents has_failed has_stalled (IsCsvRun request input) w w (end_unread e)
+      WritesCsv contents has_failed has_stalled (IsCsvRun request input) w w (end_unread e)
   unread-run request input w (rows_errors.NotText count) is = run-silent contents has_failed has_stalled (IsCsvRun request input) w (NotText count) (is, refl)
   unread-run request input w (rows_errors.Unclosed count) is = run-silent contents has_failed has_stalled (IsCsvRun request input) w (Unclosed count) (is, refl)
-  unread-run request input w (rows_errors.Ragged count fields) is = run-silent contents has_failed has_stalled (IsCsvRun request input) w (Ragged count fields) (is, refl)
+  unread-run request input w (rows_errors.Ragged count fields first) is = run-silent contents has_failed has_stalled (IsCsvRun request input) w (Ragged count fields first) (is, refl)
   unread-run request input w rows_errors.Memory is = run-no_memory contents has_failed has_stalled (IsCsvRun request input) w
 
 -- ---- crossings
@@ -103,7 +103,7 @@ module _ (request : Request) (input : List ℕ) (columns : ℕ) (rows : List (Li
   kept-run (TooWide width) output kept none = absurd kept
   kept-run (NotText count) output kept none = absurd kept
   kept-run (Unclosed count) output kept none = absurd kept
-  kept-run (Ragged count fields) output kept none = absurd kept
+  kept-run (Ragged count fields first) output kept none = absurd kept
 
   module _ (shown : List (List (List ℕ))) (free : IsFree request rows) (cut : AreCut request.cut rows shown) where
     refused-run : (end : CsvEnd) (output : List ℕ) (e : DrawError) → end ≡ Refused e → IsRefusal e → IsUnfitted request.junctions (settings_of request columns rows) (length rows, columns) e → output ≡ [] →
@@ -124,7 +124,7 @@ module _ (request : Request) (input : List ℕ) (columns : ℕ) (rows : List (Li
       sized-run d drawn (Hides p) output so = absurd so
       sized-run d drawn (NotText count) output so = absurd so
       sized-run d drawn (Unclosed count) output so = absurd so
-      sized-run d drawn (Ragged count fields) output so = absurd so
+      sized-run d drawn (Ragged count fields first) output so = absurd so
 
       config-run : (end : CsvEnd) (output : List ℕ) → IsConfigRun request columns shown config end output → IsCsvRun request input end output
       config-run end output (Sized d drawn so) = sized-run d drawn end output so

@@ -6,12 +6,12 @@ use Rattle.papergrid_config.specs.declared.spanned.SpannedConfig.{SpannedConfig}
 use Rattle.papergrid_script.specs.Writing.{IsBrokenOff}
 use Rattle.papergrid_script.specs.declared.reading.RunFault.{RunFault}
 use Rattle.papergrid_script.proofs.RunLemmas.{runs-also}
-use Rattle.papergrid_csv.specs.Pictures.{IsCsvRun, IsUnwritten}
+use Rattle.papergrid_csv.specs.Pictures.{IsCsvRun, IsPictured, IsUnwritten, WritesCsv}
 use Rattle.papergrid_csv.specs.Requests.{settings_of}
 use Rattle.papergrid_csv.specs.Rows.{AreRowsOf, IsUnread}
 use Rattle.papergrid_csv.specs.Shown.{AreCut}
 use Rattle.papergrid_csv.specs.Within.{IsGreatestCut, IsLastCut, IsRunWithin, IsWiderWith, cut_request}
-use Rattle.papergrid_csv.specs.ForProofs.Drawn.{Configured, Crossed, Faulted, Free, IsConfigRun, IsPictured, IsRowsRun, IsSettingsRun, Kept, RunsCsv, Sized, end_unread}
+use Rattle.papergrid_csv.specs.ForProofs.Drawn.{Configured, Crossed, Faulted, Free, IsConfigRun, IsRowsRun, IsSettingsRun, Kept, Sized, end_unread}
 use Rattle.papergrid_csv.specs.ForProofs.Within.{IsFirstCut, IsTried}
 use Rattle.papergrid_csv.specs.declared.reading.RowsError.{RowsError}
 use Rattle.papergrid_csv.specs.declared.reading.RowsError.TheVariants as rows_errors
@@ -54,14 +54,14 @@ module _ {W : Type 0} (contents : W → Option (List ℕ)) (has_failed has_stall
   -- ---- an input that is not read
 
   silent-within : (w : W) (end : CsvEnd) → IsCsvRun (cut_request asked width None) input end [] → ((found : ℕ) → end ≡ TooWide found → ⊥) →
-      RunsCsv contents has_failed has_stalled (IsRunWithin asked width input None) w w (Ok end)
+      WritesCsv contents has_failed has_stalled (IsRunWithin asked width input None) w w (Ok end)
   silent-within w end so other =
       run-silent contents has_failed has_stalled (IsRunWithin asked width input None) w end (record { greatest = tt; run = so; last = λ found wide. absurd (other found wide) })
 
-  pub unread-within : (w : W) (e : RowsError) → IsUnread asked.reading input e → RunsCsv contents has_failed has_stalled (IsRunWithin asked width input None) w w (end_unread e)
+  pub unread-within : (w : W) (e : RowsError) → IsUnread asked.reading input e → WritesCsv contents has_failed has_stalled (IsRunWithin asked width input None) w w (end_unread e)
   unread-within w (rows_errors.NotText count) is = silent-within w (NotText count) (is, refl) (λ found wide. cc)
   unread-within w (rows_errors.Unclosed count) is = silent-within w (Unclosed count) (is, refl) (λ found wide. cc)
-  unread-within w (rows_errors.Ragged count fields) is = silent-within w (Ragged count fields) (is, refl) (λ found wide. cc)
+  unread-within w (rows_errors.Ragged count fields first) is = silent-within w (Ragged count fields first) (is, refl) (λ found wide. cc)
   unread-within w rows_errors.Memory is = run-no_memory contents has_failed has_stalled (IsRunWithin asked width input None) w
 
   -- ---- runs
@@ -93,14 +93,14 @@ module _ {W : Type 0} (contents : W → Option (List ℕ)) (has_failed has_stall
 
   module _ (columns : ℕ) (rows : List (List (List ℕ))) (are : AreRowsOf asked.reading input columns rows) where
     -- what a run of the rows of an input says of the input
-    input-run : (request : Request) → request.reading ≡ asked.reading → (old new : W) (result : Result CsvEnd RunFault) → RunsCsv contents has_failed has_stalled (IsRowsRun request columns rows) old new result →
-        RunsCsv contents has_failed has_stalled (IsCsvRun request input) old new result
+    input-run : (request : Request) → request.reading ≡ asked.reading → (old new : W) (result : Result CsvEnd RunFault) → WritesCsv contents has_failed has_stalled (IsRowsRun request columns rows) old new result →
+        WritesCsv contents has_failed has_stalled (IsCsvRun request input) old new result
     input-run request same old new result so =
         runs-also contents has_failed has_stalled IsPictured (IsRowsRun request columns rows) (IsCsvRun request input)
         (csv-run-of request input columns rows (subst (λ reading. AreRowsOf reading input columns rows) (sym same) are)) old new result so
 
     -- fields stay as they are at first
-    pub tried-first : (old new : W) (end : CsvEnd) (first : ℕ) → RunsCsv contents has_failed has_stalled (IsRowsRun (cut_request asked width None) columns rows) old new (Ok end) → IsFirstCut width rows first →
+    pub tried-first : (old new : W) (end : CsvEnd) (first : ℕ) → WritesCsv contents has_failed has_stalled (IsRowsRun (cut_request asked width None) columns rows) old new (Ok end) → IsFirstCut width rows first →
         IsTried contents has_failed has_stalled asked width input old new (cut_request asked width None) end first
     tried-first old new end first so is = record {
       is = refl;
@@ -168,15 +168,15 @@ module _ {W : Type 0} (contents : W → Option (List ℕ)) (has_failed has_stall
     next-request = ap (λ (r : Request). record r { cut = Some left }) tried.is
 
     module _ (columns : ℕ) (rows : List (List (List ℕ))) (are : AreRowsOf asked.reading input columns rows) where
-      next-run : (last : W) (result : Result CsvEnd RunFault) → RunsCsv contents has_failed has_stalled (IsRowsRun (record request { cut = Some left }) columns rows) new last result →
-          (found : ℕ) → end ≡ TooWide found → RunsCsv contents has_failed has_stalled (IsCsvRun (record request { cut = Some left }) input) old last result
+      next-run : (last : W) (result : Result CsvEnd RunFault) → WritesCsv contents has_failed has_stalled (IsRowsRun (record request { cut = Some left }) columns rows) new last result →
+          (found : ℕ) → end ≡ TooWide found → WritesCsv contents has_failed has_stalled (IsCsvRun (record request { cut = Some left }) input) old last result
       next-run last result so found wide =
-          subst (λ w. RunsCsv contents has_failed has_stalled (IsCsvRun (record request { cut = Some left }) input) w last result) (same-writer found wide)
+          subst (λ w. WritesCsv contents has_failed has_stalled (IsCsvRun (record request { cut = Some left }) input) w last result) (same-writer found wide)
           (input-run columns rows are (record request { cut = Some left }) (ap (λ (r : Request). r.reading) tried.is) new last result so)
 
       -- it was tried
       pub tried-next : 0 < left → (found : ℕ) → end ≡ TooWide found → (last : W) (next : CsvEnd) →
-          RunsCsv contents has_failed has_stalled (IsRowsRun (record request { cut = Some left }) columns rows) new last (Ok next) →
+          WritesCsv contents has_failed has_stalled (IsRowsRun (record request { cut = Some left }) columns rows) new last (Ok next) →
           IsTried contents has_failed has_stalled asked width input old last (record request { cut = Some left }) next (left - 1)
       tried-next some found wide last next so =
           let within = left-within in
@@ -202,7 +202,7 @@ module _ {W : Type 0} (contents : W → Option (List ℕ)) (has_failed has_stall
     ]
 
     -- the run whose table is not too wide, or that of the last cut
-    pub run-within : ((found : ℕ) → end ≡ TooWide found → left ≡ 0) → RunsCsv contents has_failed has_stalled (IsRunWithin asked width input request.cut) old new (Ok end)
+    pub run-within : ((found : ℕ) → end ≡ TooWide found → left ≡ 0) → WritesCsv contents has_failed has_stalled (IsRunWithin asked width input request.cut) old new (Ok end)
     run-within none = (
       tried.run.0,
       record { greatest = tried.greatest; run = subst (λ r. IsCsvRun r input end tried.run.0) tried.is tried.run.1; last = λ found wide. last-cut (none found wide) },

@@ -8,6 +8,7 @@ pub mod Requests
 pub mod Rows
 pub mod Shown
 pub mod Spelling
+pub mod Starts
 pub mod Styles
 pub mod Within
 pub mod ForProofs

@@ -1,5 +1,5 @@
 -- The picture of a CSV text.
-use Rattle.std.specs.Prelude.{◌≡◌, ◌<◌, ◌≤◌, ◌++◌, ⊤, ℕ, false, List, [], length, Option, None, Some}
+use Rattle.std.specs.Prelude.{◌≡◌, ◌<◌, ◌≤◌, ◌++◌, ⊤, ℕ, Bool, false, List, [], length, Option, None, Some, Result}
 use Rattle.papergrid_values.specs.declared.direction.Direction.TheVariants.{Columns}
 use Rattle.papergrid_values.specs.declared.position.Position.{Position}
 use Rattle.papergrid_config.specs.declared.setting.Setting.{Setting}
@@ -14,6 +14,8 @@ use Rattle.papergrid_draw.specs.declared.crossings.Junctions.{Junctions}
 use Rattle.papergrid_config.specs.Laws.{IsConfiguredBy}
 use Rattle.papergrid_draw.specs.Sinks.{IsRefusal}
 use Rattle.papergrid_draw.specs.Pictures.{IsDrawingWith, IsFaultWith}
+use Rattle.papergrid_script.specs.Writing.{WritesOutput}
+use Rattle.papergrid_script.specs.declared.reading.RunFault.{RunFault}
 use Rattle.papergrid_csv.specs.Judging.{IsFieldHidden, first_missing}
 use Rattle.papergrid_csv.specs.Requests.{first_row, settings_of}
 use Rattle.papergrid_csv.specs.Rows.{AreRowsOf, IsUnread}
@@ -119,10 +121,18 @@ IsUnwritten request input (Hides p) = HidesAt request input p
 IsUnwritten request input (NoColumn entry) = HasNoColumn request input entry
 IsUnwritten request input (NotText count) = IsUnread request.reading input (rows_errors.NotText count)
 IsUnwritten request input (Unclosed count) = IsUnread request.reading input (rows_errors.Unclosed count)
-IsUnwritten request input (Ragged count fields) = IsUnread request.reading input (rows_errors.Ragged count fields)
+IsUnwritten request input (Ragged count fields first) = IsUnread request.reading input (rows_errors.Ragged count fields first)
 
 -- how the run of an input ends, and what is written: the lines of its picture, or nothing
 abbrev pub IsCsvRun : Request → List ℕ → CsvEnd → List ℕ → Type 0
 IsCsvRun request input Drawn output =
     (d : Drawing) × IsCsvDrawing request input d × IsNarrow request.max_width (total_along (layout_of d) Columns) × (output ≡ lined d)
 IsCsvRun request input end output = IsUnwritten request input end × (output ≡ [])
+
+-- a picture was written; at no other end anything is
+abbrev pub IsPictured : CsvEnd → Type 0
+IsPictured end = end ≡ Drawn
+
+-- by what a writer tells: an output was written, of a run that ends accordingly, or it broke off
+abbrev pub WritesCsv : {W : Type 0} → (W → Option (List ℕ)) → (W → Bool) → (W → Bool) → (CsvEnd → List ℕ → Type 0) → W → W → Result CsvEnd RunFault → Type 0
+WritesCsv contents has_failed has_stalled = WritesOutput contents has_failed has_stalled IsPictured

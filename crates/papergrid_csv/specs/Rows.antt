@@ -61,6 +61,11 @@ pub record MayBeShown (reading : Reading) (records : List (List (List ℕ))) : T
   pub texts : All AllText records
   pub long : reading.strict ≡ true → AllAsLong records
 
+-- the number of fields of the first
+abbrev pub first_length : List (List (List ℕ)) → ℕ
+first_length [] = 0
+first_length (row ∷ rows) = length row
+
 -- the greatest number of fields
 abbrev pub greatest_length : List (List (List ℕ)) → ℕ
 greatest_length [] = 0
@@ -99,13 +104,15 @@ pub record HasBadRecord (reading : Reading) (input : List ℕ) (count : ℕ) : T
   pub next : IsNextRecord reading input before fields
   pub is_bad : AllText fields → ⊥
 
--- the first record of it that has another number of fields than the first comes after so many, and has so many
-pub record HasRaggedRecord (reading : Reading) (input : List ℕ) (count field_count : ℕ) : Type 0 where
+-- after so many records of it comes the first that has another number of fields than the first one. It has so many, and the
+-- first one so many
+pub record HasRaggedRecord (reading : Reading) (input : List ℕ) (count field_count first_count : ℕ) : Type 0 where
   pub strict : reading.strict ≡ true
   pub before : List (List (List ℕ))
   pub fields : List (List ℕ)
   pub counted : count ≡ length before
   pub fields_counted : field_count ≡ length fields
+  pub first_counted : first_count ≡ first_length before
   pub next : IsNextRecord reading input before fields
   pub is_text : AllText fields
   pub is_ragged : AllAsLong (before ++ fields ∷ []) → ⊥
@@ -114,7 +121,7 @@ pub record HasRaggedRecord (reading : Reading) (input : List ℕ) (count field_c
 abbrev pub IsUnread : Reading → List ℕ → RowsError → Type 0
 IsUnread reading input (NotText count) = HasBadRecord reading input count
 IsUnread reading input (Unclosed count) = IsUnclosedFrom reading input count
-IsUnread reading input (Ragged count field_count) = HasRaggedRecord reading input count field_count
+IsUnread reading input (Ragged count field_count first_count) = HasRaggedRecord reading input count field_count first_count
 IsUnread reading input Memory = ⊤
 
 -- the texts of the fields of a row

@@ -23,8 +23,8 @@ use papergrid_text::IterRecords;
 use std::alloc::{AllocError, Global};
 
 /// The sizes of the table of a CSV text, and the cells that certify them: of the columns the widths, in columns of a terminal, and
-/// of the rows the heights, in lines. They are those of the table that `run_csv` draws, by the sizing of the request. The
-/// table may be wider than the request allows. There are none only where `run_csv` ends otherwise than with `Drawn` or
+/// of the rows the heights, in lines. They are those of the table that `draw_csv` draws, by the sizing of the request. The
+/// table may be wider than the request allows. There are none only where `draw_csv` ends otherwise than with `Drawn` or
 /// `TooWide`. Spans that do not tile the table keep it from its picture, but not always from sizes.
 ///
 /// # Errors

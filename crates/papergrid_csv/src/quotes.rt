@@ -5,6 +5,7 @@ ghost use Rattle.std.specs.Option.{MatchOption};
 ghost use Rattle.std.specs.List.{list_any};
 ghost use Rattle.csv.specs.Reading.{strip_bom};
 ghost use Rattle.papergrid_csv.specs.Rows.{IsUnclosed, IsUnclosedFrom};
+ghost use Rattle.papergrid_csv.specs.Starts.{is_line_end};
 ghost use Rattle.papergrid_csv.specs.declared.quotes.Place.TheVariants.{Quoted, Start};
 ghost use Rattle.papergrid_csv.specs.ForProofs.Places.{IsLastOutside, is_between, place_after, place_behind, plain_place};
 
@@ -13,7 +14,7 @@ use papergrid_text::search::find_byte;
 
 /// Where a byte of a text stands.
 #[derive(Clone, Copy, PartialEq, Eq)]
-enum Place {
+pub enum Place {
     /// At the start of a field.
     Start,
     /// In a field without quotes, or after its quotes.
@@ -42,7 +43,7 @@ pub fn unclosed_quote(reading: Reading, input: &[u8]) -> Option<usize>
 }
 
 /// The text without a byte order mark.
-fn without_bom(input: &[u8]) -> &[u8]
+pub fn without_bom(input: &[u8]) -> &[u8]
     ensures { result.now ≡ strip_bom input.now }
 {
     match input.strip_prefix(b"\xef\xbb\xbf") {
@@ -106,7 +107,7 @@ fn place_past(delimiter: u8, place: Place, bytes: &[u8]) -> Place
 }
 
 /// Where the byte after this one stands.
-fn place_after(delimiter: u8, place: Place, byte: u8) -> Place
+pub fn place_after(delimiter: u8, place: Place, byte: u8) -> Place
     ensures { result ≡ place_after delimiter place byte }
 {
     match (place, byte) {
@@ -118,12 +119,19 @@ fn place_after(delimiter: u8, place: Place, byte: u8) -> Place
 }
 
 /// Where the byte after this one stands, which is not between quotes, and no quote that begins a field.
-fn plain_place(delimiter: u8, byte: u8) -> Place
+pub fn plain_place(delimiter: u8, byte: u8) -> Place
     ensures { result ≡ plain_place delimiter byte }
 {
-    if byte == delimiter || byte == b'\r' || byte == b'\n' {
+    if byte == delimiter || is_line_end(byte) {
         Place::Start
     } else {
         Place::Field
     }
+}
+
+/// Whether a byte ends a line.
+pub fn is_line_end(byte: u8) -> bool
+    ensures { result ≡ is_line_end byte }
+{
+    byte == b'\r' || byte == b'\n'
 }

@@ -3,7 +3,7 @@
 ghost use Rattle.std.specs.Prelude.{◌≡◌, ◌&&◌, ◌++◌, ◌∷◌, [], IfErr, IfOk, OnOk, map};
 ghost use Rattle.csv.specs.Reading.{error_kind};
 ghost use Rattle.csv.specs.Records.{fields_of};
-ghost use Rattle.papergrid_csv.specs.Rows.{AreRowsOf, IsUnclosed, IsUnread, config_by, with_empty_fields, greatest_length, row_texts, held_texts};
+ghost use Rattle.papergrid_csv.specs.Rows.{AreRowsOf, IsUnclosed, IsUnread, config_by, with_empty_fields, first_length, greatest_length, row_texts, held_texts};
 ghost use Rattle.papergrid_csv.specs.Spelling.{spelled};
 ghost use Rattle.papergrid_csv.specs.ForProofs.Read.{AreShownFields, IsReadSoFar, has_other_length, unread_of};
 
@@ -53,9 +53,13 @@ pub enum RowsError {
     /// The quote after so many bytes of the text begins a field and is not closed before the end.
     #[error("a quote that begins a field is not closed, after {0} bytes")]
     Unclosed(usize),
-    /// After so many records comes one with so many fields, where the first has another number.
-    #[error("a record has {1} fields, unlike the first, after {0} records")]
-    Ragged(usize, usize),
+    /// After `before` records comes one with so many fields, where the first has `first`.
+    #[error("a record has {fields} fields, and the first has {first}, after {before} records")]
+    Ragged {
+        before: usize,
+        fields: usize,
+        first: usize,
+    },
     /// A growth was refused.
     #[error("out of memory")]
     Memory,
@@ -78,7 +82,7 @@ impl From<AllocError> for RowsError {
 ///
 /// `Unclosed` with the number of bytes before a quote that begins a field and is not closed. Else, by the first record
 /// that has a field that is no text, or, where the reading is strict, another number of fields than the first: `NotText`
-/// with the number of records before it, or `Ragged` with that number and its own of fields. And `Memory`.
+/// with the number of records before it, or `Ragged` with that number, its own of fields and that of the first. And `Memory`.
 pub fn read_rows<'t>(
     alloc: Global,
     texts: &'t Bump,
@@ -165,7 +169,11 @@ fn show_each<'t>(
         match reader.read_record(record) {
             Ok(true) => {
                 if is_ragged(reading.strict, shown, record) {
-                    return Err(RowsError::Ragged(shown.len(), record.len()));
+                    return Err(RowsError::Ragged {
+                        before: shown.len(),
+                        fields: record.len(),
+                        first: first_length(shown),
+                    });
                 }
                 show_record(alloc, texts, reading, record, shown)?;
             }
@@ -207,6 +215,16 @@ fn is_ragged(strict: bool, shown: &[Vec<&str>], fields: &StringRecord) -> bool
     match shown.first() {
         Some(first) => first.len() != fields.len(),
         None => false,
+    }
+}
+
+/// How many fields the first of these has, or none where there is no first.
+fn first_length(shown: &[Vec<&str>]) -> usize
+    ensures { result ≡ first_length (map row_texts shown.now) }
+{
+    match shown.first() {
+        Some(first) => first.len(),
+        None => 0,
     }
 }
 

@@ -1,6 +1,6 @@
-//! The run of a CSV text: read to the end, judge, draw.
+//! The run of a CSV text: read, judge, draw.
 
-ghost use Rattle.std.specs.Prelude.{◌≡◌, ◌≢◌, All, IfErr, IfOk, List, MatchBool, MatchOption, OnOk, false, length, map, true};
+ghost use Rattle.std.specs.Prelude.{◌≡◌, ◌≢◌, All, IfErr, IfOk, List, MatchBool, MatchOption, OnOk, length, map, true};
 ghost use Rattle.papergrid_config.specs.Applied.{is_in_range};
 ghost use Rattle.papergrid_config.specs.History.{AppendsSettings};
 ghost use Rattle.papergrid_config.specs.declared.setting.Setting.{Setting};
@@ -9,12 +9,10 @@ ghost use Rattle.papergrid_draw.specs.declared.error.DrawError.TheVariants.{Writ
 ghost use Rattle.papergrid_draw.specs.Crossings.{FitCrossings, IsFitFault};
 ghost use Rattle.papergrid_draw.specs.Sinks.{IsRefusal};
 ghost use Rattle.papergrid_draw.specs.Pictures.{texts_drawing};
-ghost use Rattle.papergrid_script.specs.Runs.{Runs};
-ghost use Rattle.papergrid_csv.specs.Pictures.{IsConfigured, IsCsvRun, IsNarrow, IsUnfitted, IsWide};
+ghost use Rattle.papergrid_csv.specs.Pictures.{IsConfigured, IsCsvRun, IsNarrow, IsUnfitted, IsWide, WritesCsv};
 ghost use Rattle.papergrid_csv.specs.Requests.{settings_of};
 ghost use Rattle.papergrid_csv.specs.Rows.{row_texts, held_texts};
-ghost use Rattle.papergrid_csv.specs.declared.run.CsvEnd.TheVariants.{Drawn};
-ghost use Rattle.papergrid_csv.specs.ForProofs.Drawn.{AreFittingOf, IsConfigRun, IsFitFaultOf, IsFree, IsKeptBy, IsRowsRun, IsSettingsRun, IsTableRun, RunsCsv, end_refused, end_unread};
+ghost use Rattle.papergrid_csv.specs.ForProofs.Drawn.{AreFittingOf, IsConfigRun, IsFitFaultOf, IsFree, IsKeptBy, IsRowsRun, IsSettingsRun, IsTableRun, end_refused, end_unread};
 
 use crate::judging::{first_hidden, first_missing};
 use crate::reading::{Rows, RowsError, read_rows};
@@ -27,13 +25,13 @@ use papergrid_draw::{
     DrawError, Junctions, Room, TextCells, check_tiles, draw_lines, fitted_crossings,
 };
 use papergrid_layout::Table;
-use papergrid_script::reading::{RunFault, read_all};
+use papergrid_script::reading::RunFault;
 use papergrid_text::IterRecords;
-use papergrid_text::transfer::{Sink, Source};
+use papergrid_text::transfer::Sink;
 use papergrid_values::Position;
 use std::alloc::{AllocError, Global};
 
-/// How a run ended that read its whole input, and wrote the whole picture of its table if it has one.
+/// How the drawing of a text ended: the whole picture of its table was written, if it has one.
 #[derive(Clone, Copy, Debug, PartialEq, Eq)]
 pub enum CsvEnd {
     /// The picture was written.
@@ -50,51 +48,29 @@ pub enum CsvEnd {
     NotText(usize),
     /// The quote after so many bytes of the text begins a field and is not closed before the end.
     Unclosed(usize),
-    /// After so many records comes one with so many fields, where the first has another number.
-    Ragged(usize, usize),
+    /// After `before` records comes one with so many fields, where the first has `first`.
+    Ragged {
+        before: usize,
+        fields: usize,
+        first: usize,
+    },
 }
 
-/// Reads a CSV text to its end, and writes the lines of the picture of its table, or nothing where it has none. Each line
-/// ends with a line feed. Nothing is written before the input was read to its end and judged. The whole input is left in
-/// the vector, in place of what it held.
-///
-/// Conditions: the reader and the writer keep what their traits promise. Neither has failed before.
+/// Writes the lines of the picture of the table of a CSV text, or nothing where it has none. Each line ends with a line feed.
+/// Nothing is written before the whole text was read and judged.
 ///
 /// # Errors
 ///
-/// `Read` where the reader fails, `Write` where the writer fails or takes no byte of a piece that isn't empty,
-/// `Memory` where a growth is refused. No failed call is tried again. After `Read` nothing was written and the vector is as
-/// it was. After `Write` and `Memory` a beginning of the output was written, which may be nothing. After `Write` the vector
-/// has the whole input, after `Memory` it is as it was or has the whole input.
-pub fn run_csv<S: Source, W: Sink>(
-    alloc: Global,
-    request: &Request,
-    reader: &mut S,
-    writer: &mut W,
-    input: &mut Vec<u8>,
-) -> Result<CsvEnd, RunFault>
-    // Of a reader and a writer that had not failed.
-    requires reader { S.has_failed reader.old ≡ false }
-    requires writer { W.has_failed writer.old ≡ false }
-    // The picture of its table was written, or nothing where it has none. The whole input is kept, and neither the reader nor the
-    // writer failed. Or which fault comes, and what it leaves of them and of the vector.
-    ensures { Runs S.remaining S.has_failed W.contents W.has_failed W.has_stalled
-        reader.old reader.new writer.old writer.new input.old input.new
-        (IsCsvRun request.now input.new.items) (IsCsvRun request.now input.new.items Drawn)
-        result }
-{
-    *input = read_all(alloc, reader)?;
-    draw_input(alloc, request, input.as_slice(), writer)
-}
-
-/// Writes the picture of the table of an input, if it has one.
-pub fn draw_input<W: Sink>(
+/// `Write` where the writer fails or takes no byte of a piece that isn't empty, and `Memory` where a growth is refused, after a
+/// beginning of the picture was written, which may be nothing. No failed call is tried again. `Read` never comes.
+pub fn draw_csv<W: Sink>(
     alloc: Global,
     request: &Request,
     input: &[u8],
     writer: &mut W,
 ) -> Result<CsvEnd, RunFault>
-    ensures { RunsCsv W.contents W.has_failed W.has_stalled (IsCsvRun request.now input.now)
+    // The picture of its table was written, or nothing where it has none. Or which fault comes, and what it leaves of the writer.
+    ensures { WritesCsv W.contents W.has_failed W.has_stalled (IsCsvRun request.now input.now)
         writer.old writer.new result }
 {
     let texts = Bump::new(alloc);
@@ -104,14 +80,22 @@ pub fn draw_input<W: Sink>(
     }
 }
 
-/// How a run ends whose input was not read.
+/// How a run ends whose text was not read.
 pub fn end_unread(error: RowsError) -> Result<CsvEnd, RunFault>
     ensures { result ≡ end_unread error }
 {
     match error {
         RowsError::NotText(before) => Ok(CsvEnd::NotText(before)),
         RowsError::Unclosed(count) => Ok(CsvEnd::Unclosed(count)),
-        RowsError::Ragged(before, fields) => Ok(CsvEnd::Ragged(before, fields)),
+        RowsError::Ragged {
+            before,
+            fields,
+            first,
+        } => Ok(CsvEnd::Ragged {
+            before,
+            fields,
+            first,
+        }),
         RowsError::Memory => Err(RunFault::Memory),
     }
 }
@@ -123,7 +107,7 @@ pub fn draw_rows<W: Sink>(
     rows: &Rows<'_>,
     writer: &mut W,
 ) -> Result<CsvEnd, RunFault>
-    ensures { RunsCsv W.contents W.has_failed W.has_stalled
+    ensures { WritesCsv W.contents W.has_failed W.has_stalled
         (IsRowsRun request.now rows.now.columns (held_texts rows.now.rows))
         writer.old writer.new result }
 {
@@ -148,7 +132,7 @@ fn draw_shown<W: Sink>(
     shown: &[Vec<&str>],
     writer: &mut W,
 ) -> Result<CsvEnd, RunFault>
-    ensures { RunsCsv W.contents W.has_failed W.has_stalled (IsSettingsRun request.now
+    ensures { WritesCsv W.contents W.has_failed W.has_stalled (IsSettingsRun request.now
         (settings_of request.now rows.now.columns (held_texts rows.now.rows))
         (length shown.now, rows.now.columns) rows.now.columns (map row_texts shown.now))
         writer.old writer.new result }
@@ -184,7 +168,7 @@ fn draw_records<W: Sink>(
     writer: &mut W,
 ) -> Result<CsvEnd, RunFault>
     requires { All (λ setting. is_in_range setting ≡ true) settings.items }
-    ensures { RunsCsv W.contents W.has_failed W.has_stalled
+    ensures { WritesCsv W.contents W.has_failed W.has_stalled
         (IsSettingsRun request.now settings.items (length rows.now, columns) columns
         (map row_texts rows.now)) writer.old writer.new result }
 {
@@ -277,7 +261,7 @@ fn draw_configured<W: Sink>(
     rows: &[Vec<&str>],
     writer: &mut W,
 ) -> Result<CsvEnd, RunFault>
-    ensures { RunsCsv W.contents W.has_failed W.has_stalled
+    ensures { WritesCsv W.contents W.has_failed W.has_stalled
         (IsConfigRun request.now columns (map row_texts rows.now) config.now)
         writer.old writer.new result }
 {
@@ -298,7 +282,7 @@ fn draw_table<W: Sink>(
 ) -> Result<CsvEnd, RunFault>
     requires { AllHaveRoom (texts_drawing table.now.config (map row_texts rows.now)
         table.now.widths table.now.heights) }
-    ensures { RunsCsv W.contents W.has_failed W.has_stalled (IsTableRun request.now.max_width
+    ensures { WritesCsv W.contents W.has_failed W.has_stalled (IsTableRun request.now.max_width
         (texts_drawing table.now.config (map row_texts rows.now)
         table.now.widths table.now.heights)) writer.old writer.new result }
 {

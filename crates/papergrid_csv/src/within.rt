@@ -1,67 +1,43 @@
 //! The run of a CSV text whose fields are cut so that its table is no wider than it may be.
 
-ghost use Rattle.std.specs.Prelude.{◌≡◌, ◌⊎◌, ◌↔◌, ℕ, IsTrue, OnErr, OnOk, false, true};
-ghost use Rattle.papergrid_script.specs.Runs.{Runs};
+ghost use Rattle.std.specs.Prelude.{◌≡◌, ◌↔◌, ℕ, IsTrue};
+ghost use Rattle.papergrid_csv.specs.Pictures.{WritesCsv};
 ghost use Rattle.papergrid_csv.specs.Rows.{held_texts};
 ghost use Rattle.papergrid_csv.specs.Within.{IsRunWithin, cut_request};
-ghost use Rattle.papergrid_csv.specs.ForProofs.Drawn.{RunsCsv};
 ghost use Rattle.papergrid_csv.specs.ForProofs.Within.{IsFirstCut};
-ghost use Rattle.papergrid_csv.specs.declared.run.CsvEnd.TheVariants.{Drawn, TooWide};
+ghost use Rattle.papergrid_csv.specs.declared.run.CsvEnd.TheVariants.{TooWide};
 
 use crate::reading::{Rows, read_rows};
 use crate::request::Request;
 use crate::run::{CsvEnd, draw_rows, end_unread};
 use crate::widest::widest_line;
 use bumpalo::Bump;
-use papergrid_script::reading::{RunFault, read_all};
-use papergrid_text::transfer::{Sink, Source};
+use papergrid_script::reading::RunFault;
+use papergrid_text::transfer::Sink;
 use std::alloc::Global;
 
-/// Like `run_csv`, with each field cut by the greatest cut of at most so many columns by which the table is no wider than
+/// Like `draw_csv`, with each field cut by the greatest cut of at most so many columns by which the table is no wider than
 /// that, or as it is where the table is no wider so. The cut and the greatest width of the request are not looked at. The
-/// request has those that were found then. The end is `TooWide`, and nothing is written, only where not even a cut of one column will do.
+/// request has those that were found then, also where the run broke off. The end is `TooWide`, and nothing is written, only
+/// where not even a cut of one column will do.
 ///
 /// The rows are read once. Cuts are tried from the widest line of a field downwards, or from `width` where that is less, each
 /// by an estimate of the table. So it takes time that grows with them too.
 ///
-/// Conditions and errors: as those of `run_csv`.
-pub fn run_csv_within<S: Source, W: Sink>(
-    alloc: Global,
-    width: usize,
-    request: &mut Request,
-    reader: &mut S,
-    writer: &mut W,
-    input: &mut Vec<u8>,
-) -> Result<CsvEnd, RunFault>
-    // Of a reader and a writer that had not failed.
-    requires reader { S.has_failed reader.old ≡ false }
-    requires writer { W.has_failed writer.old ≡ false }
-    // The picture of its table, with fields cut as the request says now, was written, or nothing where it has none. The rest is
-    // as of `run_csv`.
-    ensures runs { Runs S.remaining S.has_failed W.contents W.has_failed W.has_stalled
-        reader.old reader.new writer.old writer.new input.old input.new
-        (IsRunWithin request.old width input.new.items request.new.cut)
-        (IsRunWithin request.old width input.new.items request.new.cut Drawn) result }
-    // The request has the cut that was found, and is else as it was but for the width.
-    ensures request { OnOk result (request.new ≡ cut_request request.old width request.new.cut) }
-    ensures request_err { OnErr result ((request.new ≡ request.old)
-        ⊎ (request.new ≡ cut_request request.old width request.new.cut)) }
-{
-    *input = read_all(alloc, reader)?;
-    draw_within(alloc, width, request, input.as_slice(), writer)
-}
-
-/// Writes the picture of the table of an input with fields cut so that it is no wider than it may be.
-fn draw_within<W: Sink>(
+/// Errors: as those of `draw_csv`.
+pub fn draw_csv_within<W: Sink>(
     alloc: Global,
     width: usize,
     request: &mut Request,
     input: &[u8],
     writer: &mut W,
 ) -> Result<CsvEnd, RunFault>
-    ensures runs { RunsCsv W.contents W.has_failed W.has_stalled
+    // The picture of its table, with fields cut as the request says now, was written, or nothing where it has none. Or which fault
+    // comes, and what it leaves of the writer.
+    ensures runs { WritesCsv W.contents W.has_failed W.has_stalled
         (IsRunWithin request.old width input.now request.new.cut)
         writer.old writer.new result }
+    // The request has the cut that was found, and is else as it was but for the width.
     ensures request { request.new ≡ cut_request request.old width request.new.cut }
 {
     request.max_width = Some(width);

@@ -1,5 +1,6 @@
 -- What a run leaves, by what reading its input and writing its output leave.
 use Rattle.std.proofs.Common.{◌≡◌, ◌≢◌, ◌⊎◌, ◌∙◌, ℕ, Bool, false, true, List, Option, Result, Ok, Err, Vec, Global, ap, inl, inr, refl, subst, sym}
+use Rattle.std.specs.Prelude.{⊤}
 use Rattle.std.specs.Result.{IsErrOf, IsOkAnd, MatchResult}
 use Rattle.papergrid_text.specs.Transfer.{HasEnded, IsSteady}
 use Rattle.papergrid_script.specs.Inputs.{IsWholeInput}
@@ -106,21 +107,19 @@ runs-also contents has_failed has_stalled MayWrite IsSo IsAlso follows old new (
 }
 
 -- a run by other words for how it ends, of which the result is told in the first ones
-pub runs-as : {R W E F : Type 0} {remaining : R → Option (List ℕ)} {read_failed : R → Bool} {contents : W → Option (List ℕ)} {has_failed has_stalled : W → Bool}
-    {reader_old reader_new : R} {writer_old writer_new : W} {input_old input_new : Vec ℕ Global} {IsOutput : E → List ℕ → Type 0} {IsOther : F → List ℕ → Type 0} {MayBegin MayBeginSo : List ℕ → Type 0}
-    (seen : E → F) → ((end : E) (output : List ℕ) → IsOutput end output → IsOther (seen end) output) → ((output : List ℕ) → MayBegin output → MayBeginSo output) →
+pub writes-as : {W E F : Type 0} (contents : W → Option (List ℕ)) (has_failed has_stalled : W → Bool) (MayWrite : E → Type 0) {IsOutput : E → List ℕ → Type 0} (IsOther : F → List ℕ → Type 0) (old new : W)
+    (seen : E → F) → ((end : E) (output : List ℕ) → IsOutput end output → IsOther (seen end) output) →
     (result : Result E RunFault) (other : Result F RunFault) → MatchResult result (λ end. IsOkAnd other (λ last. last ≡ seen end)) (λ fault. other ≡ Err fault) →
-    Runs remaining read_failed contents has_failed has_stalled reader_old reader_new writer_old writer_new input_old input_new IsOutput MayBegin result →
-    Runs remaining read_failed contents has_failed has_stalled reader_old reader_new writer_old writer_new input_old input_new IsOther MayBeginSo other
-runs-as {IsOther = IsOther} seen follows begins (Ok end) (Ok last) is runs =
-    record { written = (runs.written.0, subst (λ end. IsOther end runs.written.0) (sym is) (follows end runs.written.0 runs.written.1), runs.written.2); ran = runs.ran; fault = tt; beginning = tt }
-runs-as seen follows begins (Ok end) (Err fault) is runs = absurd is
-runs-as seen follows begins (Err fault) other is runs = rw is (record {
-  written = tt;
-  ran = tt;
-  fault = runs.fault;
-  beginning = elim runs.beginning [
+    WritesOutput contents has_failed has_stalled MayWrite IsOutput old new result → WritesOutput contents has_failed has_stalled (λ _. ⊤) IsOther old new other
+writes-as contents has_failed has_stalled MayWrite IsOther old new seen follows (Ok end) (Ok last) is so =
+    (so.0, subst (λ end. IsOther end so.0) (sym is) (follows end so.0 so.1), record { taken = so.2.taken; silent = λ never. absurd (never tt) })
+writes-as contents has_failed has_stalled MayWrite IsOther old new seen follows (Ok end) (Err fault) is so = absurd is
+writes-as contents has_failed has_stalled MayWrite IsOther old new seen follows (Err fault) other is so = rw is (record {
+  not_read = so.not_read;
+  beginning = elim so.beginning [
     | inl same ↦ inl same
-    | inr begun ↦ inr (begun.0, begins begun.0 begun.1, begun.2)
+    | inr begun ↦ inr (seen begun.0, tt, (begun.2.0, follows begun.0 begun.2.0 begun.2.1, begun.2.2))
   ];
+  write = so.write;
+  steady = so.steady;
 })

@@ -1,19 +1,17 @@
 //! The table of a JSON document: drawn, and what keeps it from being drawn.
 
-ghost use Rattle.std.specs.Prelude.{◌≡◌, false, ⊤};
-ghost use Rattle.papergrid_script.specs.Runs.{Runs};
+ghost use Rattle.std.specs.Prelude.{◌≡◌, ⊤};
 ghost use Rattle.papergrid_script.specs.Writing.{WritesOutput};
 ghost use Rattle.papergrid_table.specs.ForProofs.Drafts.{document_end};
 ghost use Rattle.papergrid_table.specs.Pictures.{IsDocumentRun};
-ghost use Rattle.papergrid_table.specs.declared.document.DocumentEnd.{DocumentEnd};
 
 use papergrid::grid::DrawError;
-use papergrid::{RunFault, Sink, Sizing, Source, read_all};
+use papergrid::{RunFault, Sink, Sizing};
 use papergrid_json::{DocumentError, Form, SETTINGS, draw_document, read_document};
 use papergrid_script::program::{name_like, quoted};
 use std::alloc::{AllocError, Global};
 
-/// How the run of a document ended that read its whole input.
+/// How the drawing of a document ended.
 #[derive(Clone, Copy)]
 pub enum DocumentEnd {
     Drawn,
@@ -23,28 +21,8 @@ pub enum DocumentEnd {
     Bad,
 }
 
-/// Draws the table of the document that is read, keeps the document, and tells how that ended.
-pub fn run_document<S: Source, W: Sink>(
-    alloc: Global,
-    sizing: Sizing,
-    reader: &mut S,
-    writer: &mut W,
-    input: &mut Vec<u8>,
-) -> Result<DocumentEnd, RunFault>
-    requires reader { S.has_failed reader.old ≡ false }
-    requires writer { W.has_failed writer.old ≡ false }
-    ensures { Runs S.remaining S.has_failed W.contents W.has_failed W.has_stalled
-        reader.old reader.new writer.old writer.new input.old input.new
-        (IsDocumentRun sizing input.new.items)
-        (λ output. (end : DocumentEnd) × IsDocumentRun sizing input.new.items end output)
-        result }
-{
-    *input = read_all(alloc, reader)?;
-    draw_text(alloc, sizing, input.as_slice(), writer)
-}
-
-/// Draws the table of the document that a text tells.
-fn draw_text<W: Sink>(
+/// Draws the table of the document that a text tells, and tells how that ended.
+pub fn draw_text<W: Sink>(
     alloc: Global,
     sizing: Sizing,
     text: &[u8],

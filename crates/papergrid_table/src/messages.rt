@@ -1,6 +1,6 @@
 //! What is said of a text that has no picture.
 
-use crate::places::{Spot, first_bad_byte, line_of_record, record_after, spot_after};
+use crate::places::{Spot, first_bad_byte, line_of_record, spot_after};
 use crate::rows::{text_at, whole_rows};
 use crate::spans::{hider_of, last_at, overlap_at};
 use crate::values::{alignment_name, span_text};
@@ -36,27 +36,18 @@ pub fn message_of(
                 "{name}: line {line}, byte {byte}: a quote that begins here is not closed"
             )
         }
-        CsvEnd::Ragged(count, fields) => ragged(alloc, request, name, input, (count, fields)),
+        CsvEnd::Ragged {
+            before,
+            fields,
+            first,
+        } => {
+            let line = line_of_record(request.reading, input, before);
+            let what = if fields == 1 { "field" } else { "fields" };
+            format!(in alloc;
+                "{name}: line {line}: {fields} {what}, and the first row has {first} (--strict)"
+            )
+        }
     }
-}
-
-/// What is said of the record after so many, which has so many fields.
-fn ragged(
-    alloc: Global,
-    request: &Request,
-    name: &str,
-    input: &[u8],
-    (count, fields): (usize, usize),
-) -> Result<String, AllocError> {
-    let line = line_of_record(alloc, request.reading, input, count)?;
-    let first = match record_after(alloc, request.reading, input, 0)? {
-        Some(found) => found.fields,
-        None => 0,
-    };
-    let what = if fields == 1 { "field" } else { "fields" };
-    format!(in alloc;
-        "{name}: line {line}: {fields} {what}, and the first row has {first} (--strict)"
-    )
 }
 
 /// What is said of a table that has no picture.

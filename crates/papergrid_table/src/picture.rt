@@ -1,14 +1,15 @@
 //! The picture of an input, of a text, a script or a document.
 
-ghost use Rattle.std.specs.Prelude.{◌≡◌, OnOk, false};
+ghost use Rattle.std.specs.Prelude.{◌≡◌, OnOk, false, ⊤};
 ghost use Rattle.papergrid_script.specs.Runs.{Runs};
+ghost use Rattle.papergrid_script.specs.Writing.{WritesOutput};
 ghost use Rattle.papergrid_table.specs.Pictures.{IsCutOf, IsRunOf};
 ghost use Rattle.papergrid_table.specs.declared.picture.End.{End};
 
 use crate::arguments::{Kind, Wanted};
-use crate::document::{DocumentEnd, run_document};
-use papergrid::{RunEnd, RunFault, Sink, Source, run_table};
-use papergrid_csv::{CsvEnd, run_csv, run_csv_within};
+use crate::document::{DocumentEnd, draw_text};
+use papergrid::{RunEnd, RunFault, Sink, Source, draw_script, read_all};
+use papergrid_csv::{CsvEnd, draw_csv, draw_csv_within};
 use std::alloc::Global;
 
 /// How a run ended, of a text, of a script or of a document.
@@ -36,16 +37,30 @@ pub fn run_input<S: Source, W: Sink>(
         input.new.items end output) result }
     ensures wanted { OnOk result (IsCutOf wanted.old.kind wanted.old wanted.new) }
 {
+    *input = read_all(alloc, reader)?;
+    draw_input(alloc, wanted, input.as_slice(), writer)
+}
+
+/// Writes the picture of an input, and tells how that ended.
+fn draw_input<W: Sink>(
+    alloc: Global,
+    wanted: &mut Wanted,
+    input: &[u8],
+    writer: &mut W,
+) -> Result<End, RunFault>
+    ensures written { WritesOutput W.contents W.has_failed W.has_stalled (λ _. ⊤)
+        (IsRunOf wanted.old.kind wanted.old wanted.new.request.cut input.now)
+        writer.old writer.new result }
+    ensures wanted { IsCutOf wanted.old.kind wanted.old wanted.new }
+{
     let sizing = wanted.request.sizing;
     match wanted.kind {
-        Kind::Script => run_table(alloc, sizing, reader, writer, input).map(End::OfScript),
-        Kind::Json => run_document(alloc, sizing, reader, writer, input).map(End::OfDocument),
+        Kind::Script => draw_script(alloc, sizing, input, writer).map(End::OfScript),
+        Kind::Json => draw_text(alloc, sizing, input, writer).map(End::OfDocument),
         Kind::Csv | Kind::Tsv => match wanted.width {
-            None => run_csv(alloc, &wanted.request, reader, writer, input).map(End::OfText),
+            None => draw_csv(alloc, &wanted.request, input, writer).map(End::OfText),
             Some(width) => {
-                run_csv_within(alloc, width, &mut wanted.request, reader, writer, input).map(
-                    End::OfText,
-                )
+                draw_csv_within(alloc, width, &mut wanted.request, input, writer).map(End::OfText)
             }
         },
     }

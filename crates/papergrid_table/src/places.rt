@@ -1,29 +1,19 @@
 //! Where in a text something stands.
 
-ghost use Rattle.std.specs.Prelude.{◌≡◌, ◌≤◌, ℕ, count_by, IsUtf8, length, nat_eq, not};
+ghost use Rattle.std.specs.Prelude.{◌≡◌, ◌≤◌, ◌⊎◌, ℕ, count_by, IsUtf8, length, nat_eq, not, take};
 ghost use Rattle.std.specs.Fmt.{is_char_start};
 ghost use Rattle.std.specs.List.{suffix_len};
 ghost use Rattle.std.specs.Str.{IsValidUpTo};
+ghost use Rattle.papergrid_csv.specs.Starts.{HasNoRecord, IsRecordStart};
 ghost use Rattle.papergrid_table.specs.Places.{column_after, last_line, line_count, spot_after};
 
-use csv::{ByteRecord, Reader, ReaderBuilder};
-use papergrid_csv::{Format, Reading};
-use std::alloc::{AllocError, Global};
+use papergrid_csv::{Reading, record_start};
 
 /// A line of a text and a byte of it, both counted from 1.
 #[derive(Clone, Copy)]
 pub struct Spot {
     pub line: usize,
     pub byte: usize,
-}
-
-/// A record of a text.
-#[derive(Clone, Copy)]
-pub struct Found {
-    /// The line of its first byte, counted from 1.
-    pub line: usize,
-    /// How many fields it has.
-    pub fields: usize,
 }
 
 /// Where the byte after so many stands.
@@ -95,76 +85,14 @@ pub fn first_bad_byte(text: &[u8]) -> Spot
     }
 }
 
-/// The record after so many others, if there is one.
-pub fn record_after(
-    alloc: Global,
-    reading: Reading,
-    text: &[u8],
-    count: usize,
-) -> Result<Option<Found>, AllocError> {
-    let text = text
-        .strip_prefix(b"\xef\xbb\xbf".as_slice())
-        .unwrap_or(text);
-    let mut reader = builder_of(reading.format).from_reader(alloc, text);
-    read_after(alloc, &mut reader, text, count)
-}
-
-/// The line of the record after so many others, or the first where there is none.
-pub fn line_of_record(
-    alloc: Global,
-    reading: Reading,
-    text: &[u8],
-    count: usize,
-) -> Result<usize, AllocError> {
-    match record_after(alloc, reading, text, count)? {
-        Some(found) => Ok(found.line),
-        None => Ok(1),
-    }
-}
-
-/// How the records of a text are told apart.
-fn builder_of(format: Format) -> ReaderBuilder {
-    let mut builder = ReaderBuilder::new();
-    builder.has_headers(false).flexible(true);
-    match format {
-        Format::Csv(delimiter) => builder.delimiter(delimiter),
-        Format::Tsv => builder.delimiter(b'\t').quoting(false),
-    };
-    builder
-}
-
-/// The record after so many others, of a reader at the beginning of this text.
-fn read_after(
-    alloc: Global,
-    reader: &mut Reader<&[u8]>,
-    text: &[u8],
-    count: usize,
-) -> Result<Option<Found>, AllocError> {
-    let mut record = ByteRecord::new(alloc);
-    for number in 0..=count {
-        match reader.read_byte_record(&mut record) {
-            Ok(true) if number == count => return Ok(Some(found_at(text, &record))),
-            Ok(true) => {}
-            Ok(false) => return Ok(None),
-            Err(_) => return Err(AllocError),
-        }
-    }
-    Ok(None)
-}
-
-/// Where a record of the text stands. What ends the one before it, and empty lines, come before its first byte.
-fn found_at(text: &[u8], record: &ByteRecord) -> Found {
-    let begin = match record.position() {
-        Some(position) => usize::try_from(position.byte()).unwrap_or(text.len()),
-        None => 0,
-    };
-    let rest = text.get(begin..).unwrap_or(&[]);
-    let ends = rest
-        .iter()
-        .position(|byte| *byte != b'\n' && *byte != b'\r');
-    let first = begin.saturating_add(ends.unwrap_or(rest.len()));
-    Found {
-        line: spot_after(text, first).line,
-        fields: record.len(),
+/// The line of the first byte of the record after so many others, or the last line where there are fewer.
+pub fn line_of_record(reading: Reading, text: &[u8], count: usize) -> usize
+    ensures { HasNoRecord reading text.now count ⊎ ((start : ℕ)
+        × IsRecordStart reading text.now count start
+        × (result ≡ line_count (take start text.now))) }
+{
+    match record_start(reading, text, count) {
+        Some(start) => spot_after(text, start).line,
+        None => line_count(text),
     }
 }

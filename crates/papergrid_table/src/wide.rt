@@ -195,7 +195,7 @@ fn cell_name(
     read: Read<'_, '_>,
     position: Position,
 ) -> Result<(String, usize), AllocError> {
-    let line = line_of_record(alloc, read.request.reading, read.input, position.row)?;
+    let line = line_of_record(read.request.reading, read.input, position.row);
     let head = match text_at(read.rows, Position::new(0, position.col)) {
         Some(head) if read.request.has_head && !head.is_empty() => shown(alloc, head)?,
         _ => {

@@ -3,7 +3,7 @@
 use crate::csv_tables::csv_table_in_memory;
 use papergrid::config::Position;
 use papergrid::grid::Junctions;
-use papergrid_csv::{Alignment, CsvEnd, Request, Span, Style};
+use papergrid_csv::{Alignment, CsvEnd, Format, Request, Span, Style, record_start};
 use std::alloc::{AllocError, Global};
 
 /// Whether a text is drawn so by a request.
@@ -78,6 +78,50 @@ fn quotes_not_closed(rt: HostRuntime) {
             && is_unclosed(alloc, b"\"a\",\"\"\"\"\n\"\"\"", 9)
             && is_unclosed(alloc, b"\xef\xbb\xbf\"", 3)
     );
+}
+
+/// Whether the record of a text after so many others begins there, by a format.
+fn begins(alloc: Global, format: Format, text: &[u8], count: usize, start: Option<usize>) -> bool {
+    let mut reading = Request::in_style(alloc, Style::Rounded).reading;
+    reading.format = format;
+    record_start(reading, text, count) == start
+}
+
+/// Where records begin: behind a mark, empty lines, line feeds between quotes, and returns.
+#[test]
+fn records_begin(rt: HostRuntime) {
+    let alloc = rt.alloc();
+    let csv = Format::Csv(b',');
+    assert!(rt;
+        begins(alloc, csv, b"a,b\n\nc\n", 1, Some(5))
+            && begins(alloc, csv, b"\"x\ny\"\"\",1\r\nz", 1, Some(11))
+            && begins(alloc, csv, b"\xef\xbb\xbf\n\na", 0, Some(5))
+            && begins(alloc, Format::Tsv, b"\"a\nb\n", 1, Some(3))
+            && begins(alloc, csv, b"\"a\nb\n", 1, None)
+            && begins(alloc, csv, b"a\n", 1, None)
+    );
+}
+
+/// Whether the first record that is not as long as the first is told.
+#[test]
+fn records_of_other_lengths(rt: HostRuntime) {
+    let alloc = rt.alloc();
+    let mut request = Request::in_style(alloc, Style::Rounded);
+    request.reading.strict = true;
+    let told = match csv_table_in_memory(alloc, &request, b"a,b\n\nc,d\ne\n") {
+        Ok(
+            (
+                CsvEnd::Ragged {
+                    before,
+                    fields,
+                    first,
+                },
+                written,
+            ),
+        ) => { (before, fields, first) == (2, 1, 2) && written.is_empty() }
+        _ => false,
+    };
+    assert!(rt; told);
 }
 
 /// What no option of the program asks for.

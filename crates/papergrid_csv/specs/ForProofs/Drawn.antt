@@ -1,5 +1,5 @@
--- What calls that draw the table of a CSV text do to a writer.
-use Rattle.std.specs.Prelude.{◌≡◌, ℕ, Bool, false, List, [], Option, None, Some, Result, Ok, Err, length}
+-- How calls that draw the table of a CSV text end, and what they write.
+use Rattle.std.specs.Prelude.{◌≡◌, ℕ, false, List, [], Option, None, Some, Result, Ok, Err, length}
 use Rattle.papergrid_values.specs.declared.direction.Direction.TheVariants.{Columns}
 use Rattle.papergrid_values.specs.declared.position.Position.{Position}
 use Rattle.papergrid_config.specs.declared.setting.Setting.{Setting}
@@ -15,7 +15,6 @@ use Rattle.papergrid_draw.specs.Crossings.{FitCrossings, IsFitFault}
 use Rattle.papergrid_draw.specs.Lined.{lined}
 use Rattle.papergrid_draw.specs.declared.crossings.Junctions.{Junctions}
 use Rattle.papergrid_draw.specs.Pictures.{IsDrawingWith, IsFaultWith}
-use Rattle.papergrid_script.specs.Writing.{WritesOutput}
 use Rattle.papergrid_script.specs.declared.reading.RunFault.{RunFault}
 use Rattle.papergrid_script.specs.declared.reading.RunFault.TheVariants as run_faults
 use Rattle.papergrid_csv.specs.Judging.{IsFieldHidden, first_missing}
@@ -34,7 +33,7 @@ use Rattle.papergrid_csv.specs.declared.run.CsvEnd.TheVariants.{Drawn, Hides, No
 abbrev pub end_unread : RowsError → Result CsvEnd RunFault
 end_unread (rows_errors.NotText before) = Ok (NotText before)
 end_unread (rows_errors.Unclosed count) = Ok (Unclosed count)
-end_unread (rows_errors.Ragged before fields) = Ok (Ragged before fields)
+end_unread (rows_errors.Ragged before fields first) = Ok (Ragged before fields first)
 end_unread rows_errors.Memory = Err run_faults.Memory
 
 -- how a run ends whose table was not drawn
@@ -93,13 +92,3 @@ AreFittingOf (Some junctions) config shape fitted = FitCrossings config shape ju
 abbrev pub IsFitFaultOf : Option Junctions → SpannedConfig → ℕ × ℕ → DrawError → Type 0
 IsFitFaultOf None config shape e = ⊥
 IsFitFaultOf (Some junctions) config shape e = IsFitFault config shape e
-
--- ---- writers
-
--- a picture was written; at no other end anything is
-abbrev pub IsPictured : CsvEnd → Type 0
-IsPictured end = end ≡ Drawn
-
--- by what a writer tells: an output was written, of a run that ends accordingly, or it broke off
-abbrev pub RunsCsv : {W : Type 0} → (W → Option (List ℕ)) → (W → Bool) → (W → Bool) → (CsvEnd → List ℕ → Type 0) → W → W → Result CsvEnd RunFault → Type 0
-RunsCsv contents has_failed has_stalled = WritesOutput contents has_failed has_stalled IsPictured

@@ -1,9 +1,8 @@
 -- Cuts that are tried, the widest first.
 use Rattle.std.specs.Prelude.{◌≡◌, ◌<◌, ◌≤◌, ◌+◌, ◌⊎◌, ℕ, Bool, List, Option, None, Some, Ok}
-use Rattle.papergrid_csv.specs.Pictures.{IsCsvRun}
+use Rattle.papergrid_csv.specs.Pictures.{IsCsvRun, WritesCsv}
 use Rattle.papergrid_csv.specs.Shown.{AreCut}
 use Rattle.papergrid_csv.specs.Within.{IsGreatestCut, IsWiderWith, cut_request}
-use Rattle.papergrid_csv.specs.ForProofs.Drawn.{RunsCsv}
 use Rattle.papergrid_csv.specs.declared.request.Request.{Request}
 use Rattle.papergrid_csv.specs.declared.run.CsvEnd.{CsvEnd}
 use Rattle.papergrid_csv.specs.declared.run.CsvEnd.TheVariants.{TooWide}
@@ -26,5 +25,5 @@ module _ {W : Type 0} (contents : W → Option (List ℕ)) (has_failed has_stall
   pub record IsTried (asked : Request) (width : ℕ) (input : List ℕ) (old new : W) (request : Request) (end : CsvEnd) (left : ℕ) : Type 0 where
     pub is : request ≡ cut_request asked width request.cut
     pub greatest : IsGreatestCut asked width input request.cut
-    pub run : RunsCsv contents has_failed has_stalled (IsCsvRun request input) old new (Ok end)
+    pub run : WritesCsv contents has_failed has_stalled (IsCsvRun request input) old new (Ok end)
     pub counted : ((request.cut ≡ None) × IsUntried asked width input end left) ⊎ ((request.cut ≡ Some (left + 1)) × (left + 1 ≤ width))

@@ -1,8 +1,8 @@
-use Rattle.std.proofs.Common.{◌≡◌, ◌∙◌, List, ℕ, Some, inl, length, sym}
+use Rattle.std.proofs.Common.{◌≡◌, ◌∙◌, List, ℕ, Some, ap, inl, length, map, sym}
 use Rattle.std.specs.Borrow.{Bor}
 use Rattle.std.proofs.lemmas.List.{length-map}
 use Rattle.csv.specs.Records.{fields_of}
-use Rattle.papergrid_csv.specs.Rows.{row_texts, held_texts}
+use Rattle.papergrid_csv.specs.Rows.{first_length, row_texts, held_texts}
 use Rattle.papergrid_csv.proofs.ReadLemmas.{counted-rows, shown-end, shown-more, shown-ragged, shown-unread}
 use Rattle.papergrid_csv.proofs.reading.show_each.Goals as goal
 
@@ -21,8 +21,9 @@ returns-then-is_ragged-clause-unread c =
     let read = rw c.in-Ok-true.field-0-test at (c.in-Ok-true.ensures.reads trim ready) in
     let counted : c.len.result ≡ length (held_texts c.loop.shown) = c.len.ensures ∙ c.loop.shown.ok.0 ∙ sym (length-map c.loop.shown.items row_texts) in
     shown-ragged (λ (s : Bor (List ℕ)). Some s.now) c.args.reading c.args.input.now c.requires.closed (held_texts c.loop.shown) c.loop.reader c.read_record.new.self y config source first
-    (fields_of c.read_record.new.row) c.is_ragged.result c.len.result c.len-then-is_ragged.result read (c.in-Ok-true.ensures.text trim)
+    (fields_of c.read_record.new.row) c.is_ragged.result c.len.result c.len-then-is_ragged.result c.first_length.result read (c.in-Ok-true.ensures.text trim)
     (c.is_ragged.ensures ∙ counted-rows c.args.reading.strict (fields_of c.read_record.new.row) _ _ c.deref.ensures.value) c.if-is_ragged.true counted c.len-then-is_ragged.ensures
+    (c.first_length.ensures ∙ ap (λ rows. first_length (map row_texts rows)) c.deref-then-is_ragged.ensures.value)
 
 pub returns-in-Err-clause-unread : goal.returns-in-Err-clause-unread
 returns-in-Err-clause-unread c =

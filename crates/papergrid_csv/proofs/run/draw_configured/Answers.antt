@@ -2,8 +2,9 @@ use Rattle.std.proofs.Common.{ap, map, refl}
 use Rattle.papergrid_draw.specs.Drawings.{Drawing}
 use Rattle.papergrid_draw.specs.Pictures.{texts_drawing}
 use Rattle.papergrid_draw.proofs.PictureLemmas.{drawing-told, refusal-told, room-with}
+use Rattle.papergrid_csv.specs.Pictures.{IsPictured}
 use Rattle.papergrid_csv.specs.Rows.{row_texts}
-use Rattle.papergrid_csv.specs.ForProofs.Drawn.{IsConfigRun, IsPictured, IsTableRun, Sized}
+use Rattle.papergrid_csv.specs.ForProofs.Drawn.{IsConfigRun, IsTableRun, Sized}
 use Rattle.papergrid_script.proofs.RunLemmas.{runs-also}
 use Rattle.papergrid_csv.proofs.RunLemmas.{unsized-run}
 use Rattle.papergrid_csv.proofs.run.draw_configured.Goals as goal

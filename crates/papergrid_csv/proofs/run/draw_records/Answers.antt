@@ -1,6 +1,7 @@
 use Rattle.std.proofs.Common.{ℕ, length, map, refl}
+use Rattle.papergrid_csv.specs.Pictures.{IsPictured}
 use Rattle.papergrid_csv.specs.Rows.{row_texts}
-use Rattle.papergrid_csv.specs.ForProofs.Drawn.{Configured, Crossed, IsConfigRun, IsPictured, IsSettingsRun}
+use Rattle.papergrid_csv.specs.ForProofs.Drawn.{Configured, Crossed, IsConfigRun, IsSettingsRun}
 use Rattle.papergrid_csv.proofs.DrawLemmas.{run-refused}
 use Rattle.papergrid_script.proofs.RunLemmas.{runs-also}
 use Rattle.papergrid_csv.proofs.run.draw_records.Goals as goal

@@ -1,10 +1,11 @@
 use Rattle.std.proofs.Common.{ap, length, map, refl, subst, sym}
 use Rattle.std.specs.List.{AllZip}
+use Rattle.papergrid_csv.specs.Pictures.{IsPictured}
 use Rattle.papergrid_csv.specs.Cutting.{IsCut}
 use Rattle.papergrid_csv.specs.Requests.{settings_of}
 use Rattle.papergrid_csv.specs.Rows.{row_texts, held_texts}
 use Rattle.papergrid_csv.specs.Shown.{AreCut}
-use Rattle.papergrid_csv.specs.ForProofs.Drawn.{IsPictured, IsRowsRun, IsSettingsRun, Kept}
+use Rattle.papergrid_csv.specs.ForProofs.Drawn.{IsRowsRun, IsSettingsRun, Kept}
 use Rattle.papergrid_csv.proofs.DrawLemmas.{run-silent}
 use Rattle.papergrid_script.proofs.RunLemmas.{runs-also}
 use Rattle.papergrid_csv.proofs.RunLemmas.{rows-run-of}

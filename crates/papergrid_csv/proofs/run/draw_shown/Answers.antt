@@ -1,9 +1,10 @@
 use Rattle.std.proofs.Common.{◌≡◌, All, length, map, subst, sym, true}
 use Rattle.std.proofs.lemmas.Result.{err_from_is_err_and}
 use Rattle.papergrid_config.specs.Applied.{is_in_range}
+use Rattle.papergrid_csv.specs.Pictures.{WritesCsv}
 use Rattle.papergrid_csv.specs.Requests.{settings_of}
 use Rattle.papergrid_csv.specs.Rows.{row_texts, held_texts}
-use Rattle.papergrid_csv.specs.ForProofs.Drawn.{IsSettingsRun, RunsCsv}
+use Rattle.papergrid_csv.specs.ForProofs.Drawn.{IsSettingsRun}
 use Rattle.papergrid_csv.proofs.DrawLemmas.{run-no_memory}
 use Rattle.papergrid_csv.proofs.RequestLemmas.{all-in-range}
 use Rattle.papergrid_csv.proofs.run.draw_shown.Goals as goal
@@ -22,5 +23,5 @@ draw_records-requires g c =
 pub returns : goal.returns
 returns g c =
     let columns = c.args.rows.now.columns in
-    subst (λ settings. RunsCsv g.W.Sink.contents g.W.Sink.has_failed g.W.Sink.has_stalled (IsSettingsRun c.args.request.now settings (length c.args.shown.now, columns) columns (map row_texts c.args.shown.now))
+    subst (λ settings. WritesCsv g.W.Sink.contents g.W.Sink.has_failed g.W.Sink.has_stalled (IsSettingsRun c.args.request.now settings (length c.args.shown.now, columns) columns (map row_texts c.args.shown.now))
     c.args.writer.now c.draw_records.new.writer c.draw_records.result) c.in_ok-settings.ensures c.draw_records.ensures

@@ -1,5 +1,5 @@
 use Rattle.papergrid_csv.specs.ForProofs.Within.{IsTried}
-use Rattle.papergrid_csv.proofs.within.draw_within.Given as goal
+use Rattle.papergrid_csv.proofs.within.draw_csv_within.Given as goal
 
 abbrev pub invariant-loop-next : goal.invariant-loop-next
 invariant-loop-next g l =

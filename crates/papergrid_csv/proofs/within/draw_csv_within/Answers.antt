@@ -2,8 +2,8 @@ use Rattle.std.proofs.Common.{arith}
 use Rattle.std.proofs.lemmas.Result.{err_from_is_err_and}
 use Rattle.papergrid_csv.specs.Rows.{held_texts}
 use Rattle.papergrid_csv.proofs.WithinLemmas.{broken-first, broken-next, next-request, run-within, tried-first, tried-next, unread-within}
-use Rattle.papergrid_csv.proofs.within.draw_within.Goals as goal
-use Rattle.papergrid_csv.proofs.within.draw_within.Goals.{then-loop-next-test+else-is_too_wide, else-loop-next-test}
+use Rattle.papergrid_csv.proofs.within.draw_csv_within.Goals as goal
+use Rattle.papergrid_csv.proofs.within.draw_csv_within.Goals.{then-loop-next-test+else-is_too_wide, else-loop-next-test}
 
 pub loop-next-init : goal.loop-next-init
 loop-next-init g c =

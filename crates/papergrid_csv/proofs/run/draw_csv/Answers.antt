@@ -1,9 +1,9 @@
-use Rattle.papergrid_csv.specs.Pictures.{IsCsvRun}
+use Rattle.papergrid_csv.specs.Pictures.{IsCsvRun, IsPictured}
 use Rattle.papergrid_csv.specs.Rows.{held_texts}
-use Rattle.papergrid_csv.specs.ForProofs.Drawn.{IsPictured, IsRowsRun}
+use Rattle.papergrid_csv.specs.ForProofs.Drawn.{IsRowsRun}
 use Rattle.papergrid_script.proofs.RunLemmas.{runs-also}
 use Rattle.papergrid_csv.proofs.RunLemmas.{csv-run-of, unread-run}
-use Rattle.papergrid_csv.proofs.run.draw_input.Goals as goal
+use Rattle.papergrid_csv.proofs.run.draw_csv.Goals as goal
 
 pub returns-in-Ok : goal.returns-in-Ok
 returns-in-Ok g c =
