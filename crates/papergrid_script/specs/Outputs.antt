@@ -1,6 +1,8 @@
 -- What the program writes for an input, and how it ends.
 use Rattle.std.specs.Prelude.{ℕ, List, [], ◌∷◌, ◌++◌, Option, Some, None, Result, Ok, Err, codes, decimal, flat_map}
+use Rattle.papergrid_values.specs.declared.per_direction.PerDirection.{PerDirection}
 use Rattle.papergrid_values.specs.declared.position.Position.{Position}
+use Rattle.papergrid_layout.specs.Certificates.{Solution}
 use Rattle.papergrid_tracks.specs.declared.sizing.Sizing.{Sizing}
 use Rattle.papergrid_script.specs.declared.answer.RunEnd.{RunEnd}
 use Rattle.papergrid_script.specs.declared.answer.RunEnd.TheVariants.{Done, Refused, BadScript}
@@ -26,6 +28,12 @@ abbrev pub certificate_line : List ℕ → Option (List Position) → List ℕ
 certificate_line word None = word ++ codes " none" ++ newline ∷ []
 certificate_line word (Some places) = word ++ spaced_places places ++ newline ∷ []
 
+-- the lines that name the cells that certify sizes
+abbrev pub certificates_text : PerDirection Solution → List ℕ
+certificates_text found =
+    certificate_line (codes "witness widths") found.columns.certificate
+    ++ certificate_line (codes "witness heights") found.rows.certificate
+
 -- the lines that are written of an estimate
 abbrev pub estimate_text : Estimate → List ℕ
 estimate_text (OutOfTable place) = codes "refused: out of table at " ++ (decimal place.row ++ (comma ∷ (decimal place.col ++ newline ∷ [])))
@@ -33,8 +41,7 @@ estimate_text TooLarge = codes "refused: too large" ++ newline ∷ []
 estimate_text (Sized found) =
     number_line (codes "widths") found.columns.sizes ++ number_line (codes "heights") found.rows.sizes
     ++ number_line (codes "total") (found.columns.total ∷ found.rows.total ∷ [])
-    ++ certificate_line (codes "witness widths") found.columns.certificate
-    ++ certificate_line (codes "witness heights") found.rows.certificate
+    ++ certificates_text found
 
 -- the lines that are written of a script: its first bad line, or the estimate of its table
 abbrev pub script_text : Sizing → Result Table ℕ → List ℕ

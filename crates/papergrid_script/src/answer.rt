@@ -1,10 +1,12 @@
 //! What an input comes to: how its run ends, and what is written.
 
-ghost use Rattle.std.specs.Prelude.{◌≡◌, IfOk};
-ghost use Rattle.papergrid_script.specs.Estimates.{estimate_of};
+ghost use Rattle.std.specs.Prelude.{◌≡◌, ◌≢◌, IfOk, MatchOption};
+ghost use Rattle.papergrid_layout.specs.Certificates.{solutions_of};
+ghost use Rattle.papergrid_script.specs.Estimates.{Sized, estimate_of};
 ghost use Rattle.papergrid_script.specs.Outputs.{end_by, estimate_end, estimate_text, output_by};
 ghost use Rattle.papergrid_script.specs.Seen.{table_seen};
 ghost use Rattle.papergrid_script.specs.ForProofs.Sized.{GivesEstimate};
+ghost use Rattle.papergrid_script.specs.declared.answer.RunEnd.TheVariants.{Done};
 
 use crate::estimate::estimate;
 use crate::output::{bad_script_text, out_of_table_text, sizes_text, too_large_text};
@@ -38,6 +40,30 @@ pub fn answer(alloc: Global, sizing: Sizing, input: &[u8]) -> Result<(RunEnd, Ve
         Err(ScriptError::Memory) => Err(AllocError),
         Err(ScriptError::Bad(number)) => Ok((RunEnd::BadScript, bad_script_text(alloc, number)?)),
         Ok(script) => table_answer(alloc, sizing, script),
+    }
+}
+
+/// The sizes of the table that a script tells, and the cells that certify them. There are none only where the run of the script does
+/// not end as `Done`.
+#[tactic(auto, unfolding(crate::specs::Outputs::output_by, crate::specs::Outputs::end_by))]
+pub fn certify_script(
+    alloc: Global,
+    sizing: Sizing,
+    input: &[u8],
+) -> Result<Option<PerDirection<Solved>>, AllocError>
+    ensures { IfOk result (λ found. MatchOption found (end_by sizing input.now ≢ Done)
+        (λ both. output_by sizing input.now ≡ estimate_text (Sized (solutions_of both)))) }
+{
+    let texts = Bump::new(alloc);
+    match read_script(alloc, &texts, input) {
+        Err(ScriptError::Memory) => Err(AllocError),
+        Err(ScriptError::Bad(_)) => Ok(None),
+        Ok(script) => match table_sizes(alloc, sizing, script) {
+            Err(LayoutError::Memory(error)) => Err(error),
+            Err(LayoutError::OutOfTable(_)) => Ok(None),
+            Err(LayoutError::TooLarge) => Ok(None),
+            Ok(found) => Ok(Some(found)),
+        },
     }
 }
 

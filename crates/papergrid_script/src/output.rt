@@ -2,7 +2,7 @@
 
 ghost use Rattle.std.specs.Prelude.{◌≡◌, ◌∷◌, ◌++◌, [], IfOk, OnOk, codes, decimal};
 ghost use Rattle.papergrid_script.specs.Estimates.{OutOfTable, Sized, TooLarge};
-ghost use Rattle.papergrid_script.specs.Outputs.{estimate_text, number_line, spaced_places, certificate_line};
+ghost use Rattle.papergrid_script.specs.Outputs.{certificate_line, certificates_text, estimate_text, number_line, spaced_places};
 ghost use Rattle.papergrid_layout.specs.Certificates.{solutions_of};
 ghost use Rattle.papergrid_tracks.specs.Sizings.{places_of};
 
@@ -21,9 +21,26 @@ pub fn sizes_text(alloc: Global, found: &PerDirection<Solved>) -> Result<Vec<u8>
     push_line(&mut text, b"heights", rows.sizes.as_slice())?;
     let totals = [columns.total, rows.total];
     push_line(&mut text, b"total", totals.as_slice())?;
-    push_certificate(&mut text, b"witness widths", &columns.certificate)?;
-    push_certificate(&mut text, b"witness heights", &rows.certificate)?;
+    push_certificates(&mut text, found)?;
     Ok(text)
+}
+
+/// The lines `witness widths` and `witness heights`.
+pub fn certificates_text(alloc: Global, found: &PerDirection<Solved>) -> Result<Vec<u8>, AllocError>
+    ensures { IfOk result (λ text. text.items ≡ certificates_text (solutions_of found.now)) }
+{
+    let mut text = Vec::new(alloc);
+    push_certificates(&mut text, found)?;
+    Ok(text)
+}
+
+/// Adds those lines.
+fn push_certificates(text: &mut Vec<u8>, found: &PerDirection<Solved>) -> Result<(), AllocError>
+    ensures { OnOk result (text.new.items
+        ≡ text.old.items ++ certificates_text (solutions_of found.now)) }
+{
+    push_certificate(text, b"witness widths", &found.columns.certificate)?;
+    push_certificate(text, b"witness heights", &found.rows.certificate)
 }
 
 /// Adds a line: the word, and a space and a number for each.

@@ -6,4 +6,5 @@ pub mod Places
 pub mod Spans
 pub mod Statuses
 pub mod Values
+pub mod Witness
 pub mod ForProofs

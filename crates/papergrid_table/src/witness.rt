@@ -1,45 +1,65 @@
 //! The cells that show why a table is no smaller.
 
+ghost use Rattle.std.specs.Prelude.{◌≡◌, ◌≢◌, IfOk, MatchOption, Option};
+ghost use Rattle.papergrid_values.specs.declared.per_direction.PerDirection.{PerDirection};
+ghost use Rattle.papergrid_tracks.specs.declared.solution.Solved.{Solved};
+ghost use Rattle.papergrid_layout.specs.Certificates.{solutions_of};
+ghost use Rattle.papergrid_script.specs.Estimates.{Sized};
+ghost use Rattle.papergrid_script.specs.Outputs.{end_by, estimate_text, output_by};
+ghost use Rattle.papergrid_script.specs.declared.answer.RunEnd.TheVariants.{Done};
+ghost use Rattle.papergrid_csv.specs.Certified.{HasNoSizes, IsCsvCertified};
+ghost use Rattle.papergrid_csv.specs.Pictures.{IsCsvRun};
+ghost use Rattle.papergrid_table.specs.Witness.{witness_lines};
+
 use papergrid::Sizing;
 use papergrid_csv::{Request, certify_csv};
-use papergrid_script::answer::answer;
-use papergrid_script::output::sizes_text;
+use papergrid_layout::{PerDirection, Solved};
+use papergrid_script::answer::certify_script;
+use papergrid_script::output::certificates_text;
 use std::alloc::{AllocError, Global};
 
-/// The lines `witness widths` and `witness heights` of the table of a text, if it has any; no line feed after the last.
-pub fn witness_of_text(
-    alloc: Global,
-    request: &Request,
-    input: &[u8],
-) -> Result<String, AllocError> {
-    match certify_csv(alloc, request, input)? {
-        Some(found) => witness_lines(alloc, &sizes_text(alloc, &found)?),
-        None => Ok(String::new(alloc)),
-    }
+/// The lines `witness widths` and `witness heights` of the table of a text, or nothing where it has no sizes.
+fn witness_of_text(alloc: Global, request: &Request, input: &[u8]) -> Result<Vec<u8>, AllocError>
+    ensures { IfOk result (λ lines. (found : Option (PerDirection Solved))
+        × MatchOption found (HasNoSizes (IsCsvRun request.now input.now))
+        (IsCsvCertified request.now input.now)
+        × (lines.items ≡ witness_lines found)) }
+{
+    witness_lines(alloc, certify_csv(alloc, request, input)?)
 }
 
 /// The same of the table of a script.
-pub fn witness_of_script(
-    alloc: Global,
-    sizing: Sizing,
-    script: &[u8],
-) -> Result<String, AllocError> {
-    let (_, written) = answer(alloc, sizing, script)?;
-    witness_lines(alloc, &written)
+fn witness_of_script(alloc: Global, sizing: Sizing, script: &[u8]) -> Result<Vec<u8>, AllocError>
+    ensures { IfOk result (λ lines. (found : Option (PerDirection Solved))
+        × MatchOption found (end_by sizing script.now ≢ Done)
+        (λ both. output_by sizing script.now ≡ estimate_text (Sized (solutions_of both)))
+        × (lines.items ≡ witness_lines found)) }
+{
+    witness_lines(alloc, certify_script(alloc, sizing, script)?)
 }
 
-/// Of the lines of sizes those that name the cells; no line feed after the last.
-fn witness_lines(alloc: Global, written: &[u8]) -> Result<String, AllocError> {
-    let mut lines = String::new(alloc);
-    for line in written.split(|byte| *byte == b'\n') {
-        if line.starts_with(b"witness") {
-            if let Ok(text) = std::str::from_utf8(line) {
-                if !lines.is_empty() {
-                    lines.push('\n')?;
-                }
-                lines.push_str(text)?;
-            }
-        }
+/// The lines that name the cells that certify sizes, if there are any.
+fn witness_lines(alloc: Global, found: Option<PerDirection<Solved>>) -> Result<Vec<u8>, AllocError>
+    ensures { IfOk result (λ lines. lines.items ≡ witness_lines found) }
+{
+    match found {
+        Some(found) => certificates_text(alloc, &found),
+        None => Ok(Vec::new(alloc)),
     }
-    Ok(lines)
+}
+
+/// The lines of a text's table as a message, which has no line feed after the last.
+pub fn told_of_text(alloc: Global, request: &Request, input: &[u8]) -> Result<String, AllocError> {
+    message_of(alloc, &witness_of_text(alloc, request, input)?)
+}
+
+/// The same of a script's.
+pub fn told_of_script(alloc: Global, sizing: Sizing, script: &[u8]) -> Result<String, AllocError> {
+    message_of(alloc, &witness_of_script(alloc, sizing, script)?)
+}
+
+/// Lines without a line feed after the last.
+fn message_of(alloc: Global, lines: &[u8]) -> Result<String, AllocError> {
+    let text = lines.strip_suffix(b"\n".as_slice()).unwrap_or(lines);
+    String::from_str(alloc, std::str::from_utf8(text).unwrap_or(""))
 }
