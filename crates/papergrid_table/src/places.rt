@@ -87,8 +87,8 @@ pub fn first_bad_byte(text: &[u8]) -> Spot
 
 /// The line of the first byte of the record after so many others, or the last line where there are fewer.
 pub fn line_of_record(reading: Reading, text: &[u8], count: usize) -> usize
-    ensures { HasNoRecord reading text.now count ⊎ ((start : ℕ)
-        × IsRecordStart reading text.now count start
+    ensures { (HasNoRecord reading text.now count × (result ≡ line_count text.now))
+        ⊎ ((start : ℕ) × IsRecordStart reading text.now count start
         × (result ≡ line_count (take start text.now))) }
 {
     match record_start(reading, text, count) {

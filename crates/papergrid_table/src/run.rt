@@ -11,7 +11,7 @@ use crate::messages::message_of as message_of_text;
 use crate::picture::{End, run_input};
 use crate::progress::{Progress, Watched};
 use crate::wide::no_cut_fits;
-use crate::witness::{told_of_script, told_of_text};
+use crate::witness::{witness_of_script, witness_of_text};
 use papergrid::{ReadSource, RunEnd, RunFault, WriteSink, read_all};
 use papergrid_csv::CsvEnd;
 use papergrid_script::program::{Output, fault, message_of, shown, status, unopened};
@@ -177,9 +177,9 @@ fn ended(rt: &HostRuntime, wanted: &Wanted, name: &str, input: &[u8], end: End) 
         return ExitCode::from(0);
     }
     let said = match end {
-        End::OfText(CsvEnd::Drawn) => told_of_text(rt.alloc(), request, input),
+        End::OfText(CsvEnd::Drawn) => witness_of_text(rt.alloc(), request, input),
         End::OfText(end) => said_of_text(rt.alloc(), wanted, name, input, end),
-        End::OfScript(RunEnd::Done) => told_of_script(rt.alloc(), request.sizing, input),
+        End::OfScript(RunEnd::Done) => witness_of_script(rt.alloc(), request.sizing, input),
         End::OfScript(_) => said_of_script(rt.alloc(), wanted, input),
         End::OfDocument(end) => said_of_document(rt.alloc(), name, input, end),
     };

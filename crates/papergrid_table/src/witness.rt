@@ -19,7 +19,7 @@ use papergrid_script::output::certificates_text;
 use std::alloc::{AllocError, Global};
 
 /// The lines `witness widths` and `witness heights` of the table of a text, or nothing where it has no sizes.
-fn witness_of_text(alloc: Global, request: &Request, input: &[u8]) -> Result<Vec<u8>, AllocError>
+fn lines_of_text(alloc: Global, request: &Request, input: &[u8]) -> Result<Vec<u8>, AllocError>
     ensures { IfOk result (λ lines. (found : Option (PerDirection Solved))
         × MatchOption found (HasNoSizes (IsCsvRun request.now input.now))
         (IsCsvCertified request.now input.now)
@@ -29,7 +29,7 @@ fn witness_of_text(alloc: Global, request: &Request, input: &[u8]) -> Result<Vec
 }
 
 /// The same of the table of a script.
-fn witness_of_script(alloc: Global, sizing: Sizing, script: &[u8]) -> Result<Vec<u8>, AllocError>
+fn lines_of_script(alloc: Global, sizing: Sizing, script: &[u8]) -> Result<Vec<u8>, AllocError>
     ensures { IfOk result (λ lines. (found : Option (PerDirection Solved))
         × MatchOption found (end_by sizing script.now ≢ Done)
         (λ both. output_by sizing script.now ≡ estimate_text (Sized (solutions_of both)))
@@ -49,13 +49,21 @@ fn witness_lines(alloc: Global, found: Option<PerDirection<Solved>>) -> Result<V
 }
 
 /// The lines of a text's table as a message, which has no line feed after the last.
-pub fn told_of_text(alloc: Global, request: &Request, input: &[u8]) -> Result<String, AllocError> {
-    message_of(alloc, &witness_of_text(alloc, request, input)?)
+pub fn witness_of_text(
+    alloc: Global,
+    request: &Request,
+    input: &[u8],
+) -> Result<String, AllocError> {
+    message_of(alloc, &lines_of_text(alloc, request, input)?)
 }
 
 /// The same of a script's.
-pub fn told_of_script(alloc: Global, sizing: Sizing, script: &[u8]) -> Result<String, AllocError> {
-    message_of(alloc, &witness_of_script(alloc, sizing, script)?)
+pub fn witness_of_script(
+    alloc: Global,
+    sizing: Sizing,
+    script: &[u8],
+) -> Result<String, AllocError> {
+    message_of(alloc, &lines_of_script(alloc, sizing, script)?)
 }
 
 /// Lines without a line feed after the last.
