@@ -9,7 +9,7 @@
  *     if (answer) fprintf(stderr, "%s\n", papergrid_words(answer));
  *     papergrid_free(&table);
  *
- * A table is told its cells and its settings, call by call, and drawn. It is in no file and on no screen: `papergrid_picture` copies
+ * A table takes its cells and its settings call by call, and is drawn. It is in no file and on no screen: `papergrid_picture` copies
  * what was drawn. Link with libpapergrid.a or libpapergrid.so.
  *
  * Each call but `papergrid_free` answers a number, which is 0 where it is done (`papergrid_words` has words for each). After any other
@@ -17,7 +17,7 @@
  * too (PAPERGRID_MEMORY): no call ends the program. What such a call had allocated may stay with the table until it is freed.
  *
  * Rows and columns count from 0. Widths are columns of a terminal, heights are lines. Texts are UTF-8, with their length in bytes, and
- * need no 0 at their end. A character is told by its number in Unicode, as 0x2502 for a line down; C11 has U'x' for that of x.
+ * need no 0 at their end. A character is given by its number in Unicode, as 0x2502 for a line down; C11 has U'x' for that of x.
  *
  * What the caller owes; the library tests none of it:
  * - A handle begins as PAPERGRID_NONE, and is then changed by these calls alone. It may be moved. Of two copies only one is used.
@@ -103,7 +103,7 @@ typedef struct PapergridBorders {
 
 /* ---- a table and its cells */
 
-/* Puts a table of which nothing was told into the handle: without lines, padding and margins, with texts at the left and at the top. A
+/* Puts a new table into the handle: without cells, settings, lines, padding and margins, with texts at the left and at the top. A
  * table that it had is freed. After PAPERGRID_MEMORY it has none. */
 int32_t papergrid_new(Papergrid *handle);
 
@@ -123,9 +123,9 @@ int32_t papergrid_end_row(Papergrid *handle);
 int32_t papergrid_push_rows(Papergrid *handle, const char *text, size_t length, uint8_t cell_end, uint8_t row_end);
 
 /* ---- settings. Each is one more, and of two for the same the later one counts. A frame and an inserted line are not the same: the line
- * stays whichever is told first. */
+ * stays whichever comes first. */
 
-/* Any of the 41 settings, as a JSON list of its name and its values: ["SetBorderDefault", "+"]. Margins are told so alone, say. The
+/* Any of the 41 settings, as a JSON list of its name and its values: ["SetBorderDefault", "+"]. Margins are set so alone, say. The
  * program papergrid_table of the repository lists all with `--help-json`. PAPERGRID_BAD_SETTING, PAPERGRID_MEMORY. */
 int32_t papergrid_set(Papergrid *handle, const char *json, size_t length);
 

@@ -9,7 +9,7 @@
 │ Bo   │  12 │
 ╰──────┴─────╯
 
-A `Table` is told rows of values, and draws them. Widths are in columns of a terminal, and heights in lines.
+A `Table` takes rows of values, and draws them. Widths are in columns of a terminal, and heights in lines.
 """
 
 import itertools
@@ -149,7 +149,7 @@ class Table:
         self._set_alignments(texts, 1 if header else 0, align)
 
     def _push(self, rows: Sequence[Iterable[Any]]) -> Sequence[Sequence[str]]:
-        """Tells all rows, and answers their texts. Where no row has a cell nothing is told."""
+        """Hands all rows on, and answers their texts. Where no row has a cell nothing is handed on."""
         texts, waiting = rows, 0
         for start in range(0, len(rows), _PORTION):
             portion = rows[start : start + _PORTION]

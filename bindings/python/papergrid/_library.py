@@ -17,7 +17,7 @@ class OutOfMemory(PapergridError, MemoryError):
 
 
 class BadSetting(PapergridError, ValueError):
-    """No setting is told so, or its values are out of range."""
+    """No setting is written so, or its values are out of range."""
 
 
 class OutOfTable(PapergridError):

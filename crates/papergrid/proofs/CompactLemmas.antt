@@ -35,7 +35,7 @@ one_of_all h (suc n) some =
     subst (λ all. h ≤ all) (sym (sum_by-cons size 0 more)) within
 
 module _ {T : Type 0} (text : T → List ℕ) (tells : List (List T) → Type 0) (columns : ℕ) (compact : CompactConfig) (widths : ℕ → ℕ) where
-  -- the drawing of a compact table is one of the rows told
+  -- the drawing of a compact table is one of the rows yielded
   compact_drawing : {C K : Type 0} (texts : K → List ℕ × List ℕ) (color_at : C → Position → Option K) (colors : C)
       (table : CompactTable T) (rows : List (Vec T Global)) →
       IsCompactTable tells compact columns table → rows ≡ table.held.rows.items →

@@ -1,4 +1,4 @@
--- What a result by a configuration is, where the settings tell that configuration.
+-- What a result by a configuration is, where the settings make that configuration.
 use Rattle.std.proofs.Common.{List}
 use Rattle.std.specs.Prelude.{IfErr, IfOk, Result, Ok, Err}
 use Rattle.papergrid_tracks.specs.declared.error.LayoutError.{LayoutError}

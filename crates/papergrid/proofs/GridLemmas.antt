@@ -46,7 +46,7 @@ module _ {T C K : Type 0} (lines_in : List ℕ → List (List ℕ × ℕ)) (text
       subst (λ i. drawn i other_columns after) (n ∙ sym (length-map others items))
       (subst (λ j. drawn count j after) k (subst (λ l. drawn count columns l) lines is))
 
--- the drawing of rows of texts that are held is one of the rows told
+-- the drawing of rows of texts that are held is one of the rows yielded
 pub text_drawing : {T C K : Type 0} (text : T → List ℕ) (texts : K → List ℕ × List ℕ) (color_at : C → Position → Option K)
     (config : SpannedConfig) (widths heights : ℕ → ℕ) (tells : List (List T) → Type 0)
     (count columns other_columns : ℕ) (rows others : List (Vec T Global)) (colors : C) →
@@ -77,7 +77,7 @@ held_drawing {T = T} {C = C} text texts color_at config widths heights tells col
     subst (λ n. Is (drawn n lent)) (sym s) (subst (λ k. Is (drawn (length held.rows.items, held.columns) k)) (sym l)
     (text_drawing text texts color_at config widths heights tells (length held.rows.items) held.columns columns rows held.rows.items colors refl wide r told))
 
--- sizes for rows that are told are sizes for those that are held
+-- sizes for rows that are yielded are sizes for those that are held
 pub sized_rows : {A B : Type 0} (has : ℕ → Type 0) (held : A → B) (rows : List A) (count : ℕ) →
     count ≡ length rows → HasSizes has (length (map held rows)) → HasSizes has count
 sized_rows has held rows count same = subst (HasSizes has) (length-map rows held ∙ sym same)

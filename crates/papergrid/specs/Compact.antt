@@ -24,7 +24,7 @@ abbrev pub compact_height : CompactConfig → ℕ
 compact_height compact = 1 + (compact.padding.top.size + compact.padding.bottom.size)
 
 module _ {C : Type 0} (tells : List (List C) → Type 0) (compact : CompactConfig) where
-  -- what is drawn of rows of cells that are told, in so many columns, by a compact configuration
+  -- what is drawn of rows of cells that are yielded, in so many columns, by a compact configuration
   pub record IsCompactTable (columns : ℕ) (table : CompactTable C) : Type 0 where
     pub made : HasSettingHistory (compact_settings compact) table.config
     pub told : tells (map (λ row. row.items) table.held.rows.items)
@@ -40,7 +40,7 @@ module _ {C : Type 0} (tells : List (List C) → Type 0) (compact : CompactConfi
     pub some : length cells ≢ 0
     pub high : 2 ^ 64 ≤ compact_height compact
 
--- of rows of cells that are told, in so many columns of these widths, by a compact configuration, with the
+-- of rows of cells that are yielded, in so many columns of these widths, by a compact configuration, with the
 -- colours of the texts
 module _ {C : Type 0} (text : C → List ℕ) (tells : List (List C) → Type 0) (columns : ℕ) (compact : CompactConfig)
     (widths : ℕ → ℕ) (color : Position → Option (List ℕ × List ℕ)) where

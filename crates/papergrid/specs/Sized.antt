@@ -20,7 +20,7 @@ parts_of config widths heights shape = record {
   heights = map heights (range_with_len 0 shape.0);
 }
 
--- how many rows and columns records tell that hold theirs
+-- how many rows and columns records have that hold theirs
 abbrev pub shape_told : {T : Type 0} → VecRecords T → ℕ × ℕ
 shape_told records = (row_count records, column_count records)
 

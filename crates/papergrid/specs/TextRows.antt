@@ -6,7 +6,7 @@ use Rattle.papergrid_draw.specs.Drawings.{Drawing}
 use Rattle.papergrid_draw.specs.Cells.{text_lines}
 use Rattle.papergrid.specs.Sized.{drawing_of_rows, parts_of}
 
--- of rows of cells that are told, in so many columns, by a configuration and these sizes, with the colours of the texts
+-- of rows of cells that are yielded, in so many columns, by a configuration and these sizes, with the colours of the texts
 module _ {C : Type 0} (text : C → List ℕ) (tells : List (List C) → Type 0) (columns : ℕ) (config : SpannedConfig)
     (widths heights : ℕ → ℕ) (color : Position → Option (List ℕ × List ℕ)) where
   -- the drawing of such rows, in which each cell has the lines of its text

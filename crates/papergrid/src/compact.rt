@@ -24,7 +24,7 @@ use std::convert::AsStr;
 use std::fmt;
 
 /// A table of records whose cells are texts: one padding, one alignment and one frame for all cells, no spans, and of
-/// each text the first line. It has as many columns as the records tell, with the widths of the dimension, and a row for
+/// each text the first line. It has as many columns as the records say, with the widths of the dimension, and a row for
 /// each of theirs, which is one line high, with the paddings above and below.
 #[derive(Debug, Drop)]
 pub struct CompactGrid<'a, R, D, C> {
@@ -127,9 +127,9 @@ where
     }
 
     /// Writes the picture as text, one line at a time: nothing of a table without rows or columns. A writer of text
-    /// tells nothing of a text that it did not take.
+    /// says nothing of a text that it did not take.
     ///
-    /// Conditions: the records are lawful: they tell one finite list of rows, as each vector of rows does. The dimension
+    /// Conditions: the records are lawful: they yield one finite list of rows, as each vector of rows does. The dimension
     /// has a width for each column.
     ///
     /// # Errors
@@ -151,7 +151,7 @@ where
 
     /// Writes the picture to a sink, one line at a time: nothing of a table without rows or columns.
     ///
-    /// Conditions: the records are lawful: they tell one finite list of rows, as each vector of rows does. The dimension
+    /// Conditions: the records are lawful: they yield one finite list of rows, as each vector of rows does. The dimension
     /// has a width for each column.
     ///
     /// # Errors
@@ -172,7 +172,7 @@ where
 
     /// The picture: empty for a table without rows or columns.
     ///
-    /// Conditions: the records are lawful: they tell one finite list of rows, as each vector of rows does. The dimension
+    /// Conditions: the records are lawful: they yield one finite list of rows, as each vector of rows does. The dimension
     /// has a width for each column.
     ///
     /// # Errors

@@ -36,7 +36,7 @@ use papergrid_values::Position;
 use std::alloc::{AllocError, Global};
 use std::convert::AsStr;
 
-/// Writes the picture of the records by the configuration that the settings tell, one line at a time: nothing of
+/// Writes the picture of the records by the configuration that the settings make, one line at a time: nothing of
 /// records without rows or columns. Texts are aligned by the lines that a line feed ends.
 ///
 /// Condition: each setting is in range (`is_in_range` tests it).
@@ -123,7 +123,7 @@ pub fn run_table<S: Source, W: Sink>(
     draw_script(alloc, sizing, input.as_slice(), writer)
 }
 
-/// Writes the lines of the picture of the table that a script tells, or why it has none. Each line ends with a line feed.
+/// Writes the lines of the picture of the table that a script describes, or why it has none. Each line ends with a line feed.
 /// Nothing is written before the whole script was read and judged.
 ///
 /// # Errors

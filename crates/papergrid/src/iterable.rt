@@ -23,7 +23,7 @@ use std::alloc::{AllocError, Global};
 use std::convert::AsStr;
 use std::fmt;
 
-/// A table of records whose cells are texts. It has as many columns as the records tell, a row for each of theirs, the
+/// A table of records whose cells are texts. It has as many columns as the records say, a row for each of theirs, the
 /// sizes of the dimension, and of each row the cells that lie in it. A printer walks the records once, and holds their
 /// cells, whatever number of rows they hint at.
 #[derive(Debug, Drop)]
@@ -109,10 +109,10 @@ where
     }
 
     /// Writes the picture as text, one line at a time: nothing of a table without rows or columns. A writer of text
-    /// tells nothing of a text that it did not take.
+    /// says nothing of a text that it did not take.
     ///
-    /// Conditions: the records are lawful: they tell one finite list of rows, as each vector of rows does. The dimension
-    /// has a height for each of the rows told, and a width for each column.
+    /// Conditions: the records are lawful: they yield one finite list of rows, as each vector of rows does. The dimension
+    /// has a height for each of the rows yielded, and a width for each column.
     ///
     /// # Errors
     ///
@@ -135,8 +135,8 @@ where
 
     /// Writes the picture to a sink, one line at a time: nothing of a table without rows or columns.
     ///
-    /// Conditions: the records are lawful: they tell one finite list of rows, as each vector of rows does. The dimension
-    /// has a height for each of the rows told, and a width for each column.
+    /// Conditions: the records are lawful: they yield one finite list of rows, as each vector of rows does. The dimension
+    /// has a height for each of the rows yielded, and a width for each column.
     ///
     /// # Errors
     ///
@@ -158,8 +158,8 @@ where
 
     /// The picture: empty for a table without rows or columns.
     ///
-    /// Conditions: the records are lawful: they tell one finite list of rows, as each vector of rows does. The dimension
-    /// has a height for each of the rows told, and a width for each column.
+    /// Conditions: the records are lawful: they yield one finite list of rows, as each vector of rows does. The dimension
+    /// has a height for each of the rows yielded, and a width for each column.
     ///
     /// # Errors
     ///

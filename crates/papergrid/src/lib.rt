@@ -1,5 +1,5 @@
 //! Tables by their settings: the settings themselves, widths of columns and heights of rows, pictures, the printers
-//! over records, and scripts that tell a table.
+//! over records, and scripts that describe a table.
 #![tactic(auto)]
 
 mod compact;
@@ -124,7 +124,7 @@ pub mod records {
     }
 }
 
-/// Scripts that tell a table.
+/// Scripts that describe a table.
 pub mod script {
     pub use papergrid_script::script::{Script, ScriptError, read_script};
 }

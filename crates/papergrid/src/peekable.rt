@@ -23,7 +23,7 @@ use std::alloc::{AllocError, Global};
 use std::fmt;
 
 /// A table of records whose cells know their lines and widths. It has the numbers of rows and columns that the
-/// records tell, the sizes of the dimension, and of the rows that the records hold the cells that lie in it.
+/// records yield, the sizes of the dimension, and of the rows that the records hold the cells that lie in it.
 #[derive(Copy, Debug)]
 pub struct PeekableGrid<'a, T, D, C> {
     /// The cells.
@@ -124,7 +124,7 @@ where
     }
 
     /// Writes the picture as text, one line at a time: nothing of a table without rows or columns. A writer of text
-    /// tells nothing of a text that it did not take.
+    /// says nothing of a text that it did not take.
     ///
     /// Condition: the dimension has a height for each row and a width for each column.
     ///

@@ -24,9 +24,9 @@ use std::alloc::{AllocError, Global};
 use std::convert::AsStr;
 
 /// The widths of the columns of the records, in columns of a terminal, and the heights of their rows, in
-/// lines, by the configuration that the settings tell: in it each setting of a cell is what they decide.
+/// lines, by the configuration that the settings make: in it each setting of a cell is what they decide.
 ///
-/// Conditions: each setting is in range (`is_in_range` tests it). The records are lawful: they tell one finite list
+/// Conditions: each setting is in range (`is_in_range` tests it). The records are lawful: they yield one finite list
 /// of rows and one count of columns, as each vector of rows does. A cell answers the same each time.
 ///
 /// # Errors
@@ -47,7 +47,7 @@ where
     ensures sizes { UnlessMemory result (TellsRows R.tells records (λ cells.
         IsLaidOut (grid_of settings.items) (line_measure R.Iter.Cell.text)
         (R.columns records) cells sizings.ByShares result)) }
-    // So by a configuration that the settings tell, and that holds for each cell what they decide.
+    // So by a configuration that the settings make, and that holds for each cell what they decide.
     ensures settings { UnlessMemory result ((config : SpannedConfig)
         × IsConfiguredBy settings.items config
         × TellsRows R.tells records (λ cells.
@@ -80,7 +80,7 @@ where
     ensures sizes { UnlessMemory result (TellsRows R.tells records (λ cells.
         IsLaidOut (grid_of settings.items) (line_measure R.Iter.Cell.text)
         (R.columns records) cells sizings.Least result)) }
-    // So by a configuration that the settings tell, and that holds for each cell what they decide.
+    // So by a configuration that the settings make, and that holds for each cell what they decide.
     ensures settings { UnlessMemory result ((config : SpannedConfig)
         × IsConfiguredBy settings.items config
         × TellsRows R.tells records (λ cells.
@@ -127,7 +127,7 @@ fn estimated<D: Estimate<R, SpannedConfig> + Drop, R>(
     Ok(dimension)
 }
 
-/// The configuration that the settings tell. Condition: each setting is in range.
+/// The configuration that the settings make. Condition: each setting is in range.
 // It is made where its caller keeps it: it is large, and is not moved.
 #[inline(always)]
 pub fn configuration(alloc: Global, settings: Vec<Setting>) -> Result<SpannedConfig, AllocError>

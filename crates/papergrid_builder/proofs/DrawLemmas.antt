@@ -31,7 +31,7 @@ use Rattle.papergrid_draw.specs.Pictures.{IsDrawingWith, IsFaultWith, Unsized}
 use Rattle.papergrid_builder.specs.Errors.{layout_refusal}
 use Rattle.papergrid_builder.specs.Layouts.{AreFoundSizes, IsNoFoundTable, parts_found, totals_of}
 use Rattle.papergrid_builder.specs.Pictures.{IsDrawingOf, IsNotDrawn}
-use Rattle.papergrid_builder.specs.Told.{FoundTable, longest}
+use Rattle.papergrid_builder.specs.BuilderStates.{FoundTable, longest}
 use Rattle.papergrid_builder.specs.ForProofs.Kept.{found_of}
 use Rattle.papergrid_builder.specs.ForProofs.Sizes.{IsPictureRefused, IsUnfound, draw_refusal}
 use Rattle.papergrid_builder.specs.declared.error.BuilderError.{BuilderError}
@@ -73,7 +73,7 @@ module _ (config : SpannedConfig) (rows : List (List (List ℕ))) (sizing : Sizi
   undrawn-refused (draw_errors.Memory e) is = tt
   undrawn-refused draw_errors.Write is = tt
 
-  -- by a configuration that settings tell
+  -- by a configuration that settings make
   module _ (settings : List Setting) (told : IsConfiguredBy settings config) where
     pub not-found : (e : BuilderError) → IsUnfound config rows sizing e → IsNoFoundTable settings rows sizing e
     not-found (builder_errors.OutOfTable p) are = (config, told, are)

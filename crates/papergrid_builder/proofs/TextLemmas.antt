@@ -12,7 +12,7 @@ use Rattle.std.proofs.lemmas.List.Splits.{length-slice_split, slice_split_first,
 use Rattle.std.proofs.lemmas.List.Sums.{fails_before_first, passes_at_first}
 use Rattle.std.proofs.lemmas.Str.{IsCharBoundary-after_ascii, IsCharBoundary-at_seam, IsCharBoundary-before_ascii, IsCharBoundary-end, IsUtf8-append, IsUtf8-drop, IsUtf8-take}
 use Rattle.papergrid_text.proofs.Places.{no_more_than}
-use Rattle.papergrid_builder.specs.Told.{in_last_row, longest, one_more_cell, rows_in, unless_last_is_empty}
+use Rattle.papergrid_builder.specs.BuilderStates.{in_last_row, longest, one_more_cell, rows_in, unless_last_is_empty}
 use Rattle.papergrid_builder.specs.ForProofs.Texts.{AreCells, AreStarts, IsTextRange, rows_told, text_in, texts_lent}
 
 -- ---- the longest row

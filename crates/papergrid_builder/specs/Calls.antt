@@ -3,7 +3,7 @@ use Rattle.std.specs.Prelude.{◌≡◌, ◌<◌, ⊤, ℕ, All, IsUtf8, List, N
 use Rattle.papergrid_config.specs.Applied.{is_in_range}
 use Rattle.papergrid_config.specs.declared.setting.Setting.{Setting}
 use Rattle.papergrid_json.specs.Documents.{setting_in}
-use Rattle.papergrid_builder.specs.Told.{ToldTable, rows_in, with_cell, with_more_rows, with_setting}
+use Rattle.papergrid_builder.specs.BuilderStates.{BuilderState, rows_in, with_cell, with_more_rows, with_setting}
 use Rattle.papergrid_builder.specs.declared.error.BuilderError.{BuilderError}
 use Rattle.papergrid_builder.specs.declared.error.BuilderError.TheVariants.{BadSetting, Memory, NotAscii, NotText, OutOfRange}
 
@@ -13,7 +13,7 @@ IsOutOfMemory Memory = ⊤
 IsOutOfMemory e = ⊥
 
 -- a setting that is in range, as one more
-abbrev pub GainsSetting : ToldTable → ToldTable → Setting → Type 0
+abbrev pub GainsSetting : BuilderState → BuilderState → Setting → Type 0
 GainsSetting old new setting = (is_in_range setting ≡ true) × (new ≡ with_setting old setting)
 
 -- why a setting is refused
@@ -23,7 +23,7 @@ IsNotTold setting Memory = is_in_range setting ≡ true
 IsNotTold setting e = ⊥
 
 -- the setting that a JSON text tells, as one more
-abbrev pub GainsSettingIn : List ℕ → ToldTable → ToldTable → Type 0
+abbrev pub GainsSettingIn : List ℕ → BuilderState → BuilderState → Type 0
 GainsSettingIn text old new = (setting : Setting) × (setting_in text ≡ Some setting) × GainsSetting old new setting
 
 -- why a JSON text is refused: it tells no setting, or an allocation failed
@@ -33,7 +33,7 @@ IsNoSetting text Memory = ⊤
 IsNoSetting text e = ⊥
 
 -- one more cell, of a text in UTF-8
-abbrev pub GainsCell : List ℕ → ToldTable → ToldTable → Type 0
+abbrev pub GainsCell : List ℕ → BuilderState → BuilderState → Type 0
 GainsCell text old new = IsUtf8 text × (new ≡ with_cell old text)
 
 -- why the text of a cell is refused
@@ -47,7 +47,7 @@ abbrev pub AreAscii : ℕ → ℕ → Type 0
 AreAscii cell_end row_end = (cell_end < 128) × (row_end < 128)
 
 -- the rows that a text in UTF-8 is cut into as more rows, each of which is ended. Their texts are in UTF-8 too
-abbrev pub GainsRows : ℕ → ℕ → List ℕ → ToldTable → ToldTable → Type 0
+abbrev pub GainsRows : ℕ → ℕ → List ℕ → BuilderState → BuilderState → Type 0
 GainsRows cell_end row_end text old new = AreAscii cell_end row_end × IsUtf8 text
     × All (All IsUtf8) (rows_in cell_end row_end text) × (new ≡ with_more_rows old (rows_in cell_end row_end text))
 

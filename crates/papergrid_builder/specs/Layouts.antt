@@ -15,7 +15,7 @@ use Rattle.papergrid_tracks.specs.declared.error.LayoutError.{LayoutError}
 use Rattle.papergrid_tracks.specs.declared.error.LayoutError.TheVariants as layout_errors
 use Rattle.papergrid_walk.specs.Measures.{text_measure}
 use Rattle.papergrid_config.specs.Laws.{IsConfiguredBy}
-use Rattle.papergrid_builder.specs.Told.{FoundTable, longest}
+use Rattle.papergrid_builder.specs.BuilderStates.{FoundTable, longest}
 use Rattle.papergrid_builder.specs.declared.error.BuilderError.{BuilderError}
 use Rattle.papergrid_builder.specs.declared.error.BuilderError.TheVariants.{Hidden, Memory, NotEstimated, OutOfTable, TooLarge}
 use Rattle.papergrid_layout.specs.Answers.{IsBothRefused}
@@ -33,7 +33,7 @@ abbrev pub totals_of : FoundTable → ℕ × ℕ
 totals_of found = (found.along.columns.total, found.along.rows.total)
 
 module _ (settings : List Setting) (rows : List (List (List ℕ))) (sizing : Sizing) where
-  -- the same by a configuration that the settings tell; the totals are those of the table, and fit
+  -- the same by a configuration that the settings make; the totals are those of the table, and fit
   pub record IsFoundTable (found : FoundTable) : Type 0 where
     pub configured : IsConfiguredBy settings found.config
     pub sized : AreFoundSizes rows sizing found

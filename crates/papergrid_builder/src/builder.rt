@@ -1,4 +1,4 @@
-//! A table that is told call by call.
+//! A table that is built call by call.
 
 use crate::cells::CellTexts;
 use crate::drawn::drawn;
@@ -12,8 +12,8 @@ use papergrid_values::{Direction, Position};
 use std::alloc::Global;
 use std::marker::Model;
 
-/// A table that is told call by call: its settings, and the texts of its cells, row by row. It has as many columns as its longest row
-/// has cells. It also keeps what was found of it, until a setting or a text is told, and the picture that was drawn last.
+/// A table that is built call by call: its settings, and the texts of its cells, row by row. It has as many columns as its longest row
+/// has cells. It also keeps what was found of it, until a setting or a text is added, and the picture that was drawn last.
 ///
 /// A call that is refused changes nothing.
 pub struct Builder {
@@ -42,9 +42,9 @@ impl Drop for Builder {
 }
 
 impl Model for Builder {
-    ghost use Rattle.papergrid_builder.specs.Told.{ToldTable};
+    ghost use Rattle.papergrid_builder.specs.BuilderStates.{BuilderState};
 
-    ghost Value = { ToldTable };
+    ghost Value = { BuilderState };
 
     ghost use Rattle.papergrid_config.specs.contracts.setting.Setting.{the_row as setting_row};
     ghost use Rattle.papergrid_config.specs.contracts.spanned.SpannedConfig.{the_row as config_row};
@@ -69,10 +69,10 @@ impl Builder {
     ghost use Rattle.papergrid_builder.specs.Calls.{AreNoRows, GainsCell, GainsRows, GainsSetting, GainsSettingIn, IsNoCell, IsNoSetting, IsNotTold, IsOutOfMemory};
     ghost use Rattle.papergrid_builder.specs.Layouts.{IsCellAnswer, IsFoundTable, IsNoFoundTable, IsPlaceAnswer, certificate_along, sizes_along, totals_of};
     ghost use Rattle.papergrid_builder.specs.Pictures.{IsDrawingOf, IsNotDrawn};
-    ghost use Rattle.papergrid_builder.specs.Told.{FoundTable, blank_table, with_row_end};
+    ghost use Rattle.papergrid_builder.specs.BuilderStates.{FoundTable, blank_table, with_row_end};
     ghost use Rattle.papergrid_builder.specs.declared.error.BuilderError.TheVariants.{BadSetting, Memory, NotAscii, NotText, OutOfRange};
 
-    /// A table of which nothing was told. It does not allocate.
+    /// A table without settings and texts. It does not allocate.
     pub fn new(alloc: Global) -> Builder
         ensures { result ≡ blank_table }
     {
@@ -212,7 +212,7 @@ impl Builder {
         self.picture.as_slice()
     }
 
-    /// Finds the sizes of the table and the cells that certify them, and keeps these until a setting or a text is told. Answers the total
+    /// Finds the sizes of the table and the cells that certify them, and keeps these until a setting or a text is added. Answers the total
     /// width in columns of a terminal and the total height in lines, with all lines and without margins.
     ///
     /// # Errors
@@ -238,7 +238,7 @@ impl Builder {
     }
 
     /// The widths of the columns, in columns of a terminal, or the heights of the rows, in lines, that were found. None where none were
-    /// found since the last setting or text was told.
+    /// found since the last setting or text was added.
     pub fn sizes(&self, direction: Direction) -> Option<&[usize]>
         ensures exact { option_map (λ sizes. sizes.now) result
             ≡ option_map (sizes_along direction) self.now.found }
@@ -254,7 +254,7 @@ impl Builder {
 
     /// The positions of the cells that certify that no widths with room for each visible cell, or no heights, have a smaller total: visible
     /// cells of disjoint ranges, whose minimum sizes less the lines inside of them add up to the sizes that were found. None where no
-    /// sizes were found since the last setting or text was told, and where they are by shares and two longer ranges are neither nested
+    /// sizes were found since the last setting or text was added, and where they are by shares and two longer ranges are neither nested
     /// nor disjoint.
     pub fn certificate(&self, direction: Direction) -> Option<&[Position]>
         ensures exact { option_map (λ places. places.now) result
@@ -277,7 +277,7 @@ impl Builder {
     ///
     /// # Errors
     ///
-    /// `NotEstimated` where no sizes were found since the last setting or text was told; else `Hidden` where the position is hidden,
+    /// `NotEstimated` where no sizes were found since the last setting or text was added; else `Hidden` where the position is hidden,
     /// `OutOfTable` with it where its range ends past the last column or the last row; `Memory` in place of these answers.
     pub fn place(&self, alloc: Global, position: Position) -> Result<Place, BuilderError>
         ensures exact { IsPlaceAnswer self.now.found position result }
@@ -297,7 +297,7 @@ impl Builder {
     ///
     /// # Errors
     ///
-    /// `NotEstimated` where no sizes were found since the last setting or text was told; `Memory` in place of any other answer.
+    /// `NotEstimated` where no sizes were found since the last setting or text was added; `Memory` in place of any other answer.
     pub fn cell_at(
         &self,
         alloc: Global,

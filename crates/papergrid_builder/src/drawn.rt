@@ -8,7 +8,7 @@ ghost use Rattle.papergrid_draw.specs.Pictures.{IsDrawingWith};
 ghost use Rattle.papergrid_draw.specs.declared.error.DrawError.TheVariants.{NoRoom};
 ghost use Rattle.papergrid_json.specs.Documents.{AreInRange};
 ghost use Rattle.papergrid_builder.specs.Pictures.{IsDrawingOf, IsNotDrawn};
-ghost use Rattle.papergrid_builder.specs.Told.{longest};
+ghost use Rattle.papergrid_builder.specs.BuilderStates.{longest};
 ghost use Rattle.papergrid_builder.specs.ForProofs.Sizes.{IsPictureRefused, draw_refusal};
 ghost use Rattle.papergrid_builder.specs.ForProofs.Texts.{AreStarts, rows_lent, rows_told};
 

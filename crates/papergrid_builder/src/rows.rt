@@ -2,7 +2,7 @@
 
 ghost use Rattle.std.specs.Prelude.{◌≡◌, ◌==◌, ◌<◌, ◌≤◌, ◌++◌, IfOk, MatchOption, OnErr, OnOk, length, slice_range, take};
 ghost use Rattle.std.specs.List.{after_first, before_first, position_or_len, slice_split};
-ghost use Rattle.papergrid_builder.specs.Told.{longest, one_more_cell, rows_in};
+ghost use Rattle.papergrid_builder.specs.BuilderStates.{longest, one_more_cell, rows_in};
 ghost use Rattle.papergrid_builder.specs.ForProofs.Texts.{AreStarts, rows_lent, rows_told, texts_lent};
 
 use crate::cells::CellTexts;

@@ -9,7 +9,7 @@ use Rattle.papergrid_draw.specs.Drawings.{Drawing}
 use Rattle.papergrid_draw.specs.Lined.{lined}
 use Rattle.papergrid_builder.specs.Layouts.{IsCellAnswer, IsFoundTable, IsNoFoundTable, IsPlaceAnswer, certificate_along, sizes_along, totals_of}
 use Rattle.papergrid_builder.specs.Pictures.{IsDrawingOf, IsNotDrawn}
-use Rattle.papergrid_builder.specs.Told.{FoundTable, ToldTable}
+use Rattle.papergrid_builder.specs.BuilderStates.{FoundTable, BuilderState}
 use Rattle.papergrid_builder.specs.declared.error.BuilderError.{BuilderError}
 use Rattle.papergrid_builder.specs.declared.error.BuilderError.TheVariants.{NotEstimated, NotTiled, OutOfTable}
 use Rattle.papergrid_c.specs.Numbers.{done, no_cell, no_certificate, no_room, no_table, number_of}
@@ -18,12 +18,12 @@ use Rattle.papergrid_c.specs.declared.structs.PapergridPosition.{PapergridPositi
 
 -- what a call does to the table of a handle, and what it tells in the place of what was lent to it. A
 -- handle without a table stays so
-abbrev pub TellsOfTable : {A : Type 0} → (ToldTable → A → ToldTable → A → ℤ → Type 0) → Option ToldTable → A → Option ToldTable → A → ℤ → Type 0
+abbrev pub TellsOfTable : {A : Type 0} → (BuilderState → A → BuilderState → A → ℤ → Type 0) → Option BuilderState → A → Option BuilderState → A → ℤ → Type 0
 TellsOfTable Does None lent new told result = (new ≡ None) × (told ≡ lent) × (result ≡ no_table)
-TellsOfTable Does (Some old) lent new told result = (table : ToldTable) × (new ≡ Some table) × Does old lent table told result
+TellsOfTable Does (Some old) lent new told result = (table : BuilderState) × (new ≡ Some table) × Does old lent table told result
 
 -- the same of a call that leaves the table as it is
-abbrev pub AsksTable : {A : Type 0} → (ToldTable → A → A → ℤ → Type 0) → Option ToldTable → A → Option ToldTable → A → ℤ → Type 0
+abbrev pub AsksTable : {A : Type 0} → (BuilderState → A → A → ℤ → Type 0) → Option BuilderState → A → Option BuilderState → A → ℤ → Type 0
 AsksTable Tells None lent new told result = (new ≡ None) × (told ≡ lent) × (result ≡ no_table)
 AsksTable Tells (Some table) lent new told result = (new ≡ Some table) × Tells table lent told result
 
@@ -32,14 +32,14 @@ abbrev pub sizing_of : ℕ → Sizing
 sizing_of least = if least == 0 then ByShares else Least
 
 -- the total width and height by sizes that are found of the table and kept; or why there are none
-abbrev pub Estimates : Sizing → ToldTable → ℕ × ℕ → ToldTable → ℕ × ℕ → ℤ → Type 0
+abbrev pub Estimates : Sizing → BuilderState → ℕ × ℕ → BuilderState → ℕ × ℕ → ℤ → Type 0
 Estimates sizing old lent new told result =
     ((found : FoundTable) × IsFoundTable old.settings old.rows sizing found × (new ≡ record old { found = Some found })
     × (told ≡ totals_of found) × (result ≡ done))
     ⊎ ((e : BuilderError) × IsNoFoundTable old.settings old.rows sizing e × (new ≡ old) × (told ≡ lent) × (result ≡ number_of e))
 
--- sizes that were found are those of the table as it is told
-abbrev pub AreCurrent : ToldTable → Type 0
+-- sizes that were found are those of the table as it is
+abbrev pub AreCurrent : BuilderState → Type 0
 AreCurrent table = IfSome table.found (λ found. (sizing : Sizing) × IsFoundTable table.settings table.rows sizing found)
 
 -- a screen rectangle as C has it
@@ -56,7 +56,7 @@ IsToldPlace (Ok place) lent told result = (told ≡ place_for_c place) × (resul
 IsToldPlace (Err e) lent told result = (told ≡ lent) × (result ≡ number_of e)
 
 -- where the cell at a position stands, by the sizes that were found
-abbrev pub TellsPlace : Position → ToldTable → PapergridPlace → PapergridPlace → ℤ → Type 0
+abbrev pub TellsPlace : Position → BuilderState → PapergridPlace → PapergridPlace → ℤ → Type 0
 TellsPlace p table lent told result =
     (answer : Result Place BuilderError) × IsPlaceAnswer table.found p answer × AreCurrent table × IsToldPlace answer lent told result
 
@@ -67,7 +67,7 @@ IsToldCell (Ok (Some p)) lent told result = (told ≡ position_for_c p) × (resu
 IsToldCell (Err e) lent told result = (told ≡ lent) × (result ≡ number_of e)
 
 -- the cell over a column of the terminal in a line, by the sizes that were found
-abbrev pub TellsCell : ℕ → ℕ → ToldTable → PapergridPosition → PapergridPosition → ℤ → Type 0
+abbrev pub TellsCell : ℕ → ℕ → BuilderState → PapergridPosition → PapergridPosition → ℤ → Type 0
 TellsCell column line table lent told result =
     (answer : Result (Option Position) BuilderError) × IsCellAnswer table.found column line answer × AreCurrent table × IsToldCell answer lent told result
 
@@ -78,7 +78,7 @@ cell_of_error (NotTiled p) lent = position_for_c p
 cell_of_error e lent = lent
 
 -- the picture is kept, and its length told; or why there is none, and the cell of which that speaks
-abbrev pub DrawsPicture : Sizing → ToldTable → ℕ × PapergridPosition → ToldTable → ℕ × PapergridPosition → ℤ → Type 0
+abbrev pub DrawsPicture : Sizing → BuilderState → ℕ × PapergridPosition → BuilderState → ℕ × PapergridPosition → ℤ → Type 0
 DrawsPicture sizing old lent new told result =
     ((d : Drawing) × IsDrawingOf old.settings old.rows sizing d × (new ≡ record old { picture = lined d })
     × (told ≡ (length (lined d), lent.1)) × (result ≡ done))
@@ -91,7 +91,7 @@ TellsInFront values lent told result =
     ⊎ ((length lent < length values) × (told ≡ lent) × (result ≡ no_room))
 
 -- the bytes of the picture that was drawn last
-abbrev pub TellsPicture : ToldTable → List ℕ → List ℕ → ℤ → Type 0
+abbrev pub TellsPicture : BuilderState → List ℕ → List ℕ → ℤ → Type 0
 TellsPicture table = TellsInFront table.picture
 
 -- how many values there are, and they, where they fit
@@ -104,19 +104,19 @@ TellsFoundSizes direction None lent told result = (told ≡ lent) × (result ≡
 TellsFoundSizes direction (Some found) lent told result = TellsCounted (sizes_along direction found) lent told result
 
 -- of the table
-abbrev pub TellsSizes : Direction → ToldTable → List ℕ × ℕ → List ℕ × ℕ → ℤ → Type 0
+abbrev pub TellsSizes : Direction → BuilderState → List ℕ × ℕ → List ℕ × ℕ → ℤ → Type 0
 TellsSizes direction table lent told result = TellsFoundSizes direction table.found lent told result × AreCurrent table
 
 -- the cells of a certificate, if there is one
-abbrev pub TellsPlaces : Option (List Position) → List PapergridPosition × ℕ → List PapergridPosition × ℕ → ℤ → Type 0
-TellsPlaces None lent told result = (told ≡ lent) × (result ≡ no_certificate)
-TellsPlaces (Some places) lent told result = TellsCounted (map position_for_c places) lent told result
+abbrev pub TellsPositions : Option (List Position) → List PapergridPosition × ℕ → List PapergridPosition × ℕ → ℤ → Type 0
+TellsPositions None lent told result = (told ≡ lent) × (result ≡ no_certificate)
+TellsPositions (Some positions) lent told result = TellsCounted (map position_for_c positions) lent told result
 
 -- the cells that certify the widths, or the heights, of what was found
 abbrev pub TellsFoundCertificate : Direction → Option FoundTable → List PapergridPosition × ℕ → List PapergridPosition × ℕ → ℤ → Type 0
 TellsFoundCertificate direction None lent told result = (told ≡ lent) × (result ≡ number_of NotEstimated)
-TellsFoundCertificate direction (Some found) lent told result = TellsPlaces (certificate_along direction found) lent told result
+TellsFoundCertificate direction (Some found) lent told result = TellsPositions (certificate_along direction found) lent told result
 
 -- of the table
-abbrev pub TellsCertificate : Direction → ToldTable → List PapergridPosition × ℕ → List PapergridPosition × ℕ → ℤ → Type 0
+abbrev pub TellsCertificate : Direction → BuilderState → List PapergridPosition × ℕ → List PapergridPosition × ℕ → ℤ → Type 0
 TellsCertificate direction table lent told result = TellsFoundCertificate direction table.found lent told result × AreCurrent table

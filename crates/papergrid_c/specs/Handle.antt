@@ -15,7 +15,7 @@ use Rattle.papergrid_builder.specs.contracts.builder.Builder.{the_row}
 abbrev pub HeldRow : RattleType
 HeldRow = the_row
 
--- a value of it: what was told of a table (`ToldTable`)
+-- a value of it: the state of a table (`BuilderState`)
 abbrev pub Held : Type 0
 Held = HeldRow.Denot
 

@@ -130,21 +130,21 @@ fn tell_certificate(
     }
     match builder.certificate(direction) {
         None => NO_CERTIFICATE,
-        Some(places) => tell_places(places, cells, count),
+        Some(positions) => tell_positions(positions, cells, count),
     }
 }
 
-fn tell_places(places: &[Position], cells: &mut [PapergridPosition], count: &mut usize) -> i32
-    ensures { TellsCounted (map position_for_c places.now) (cells.old, count.old)
+fn tell_positions(positions: &[Position], cells: &mut [PapergridPosition], count: &mut usize) -> i32
+    ensures { TellsCounted (map position_for_c positions.now) (cells.old, count.old)
         (cells.new, count.new) result }
 {
-    let length = places.len();
+    let length = positions.len();
     *count = length;
     if cells.len() < length {
         return NO_ROOM;
     }
     for i in 0..length {
-        cells[i] = PapergridPosition::of(places[i]);
+        cells[i] = PapergridPosition::of(positions[i]);
     }
     DONE
 }

@@ -1,4 +1,4 @@
-//! Settings by C's values. Each call tells one more setting.
+//! Settings by C's values. Each call adds one more setting.
 
 ghost use Rattle.papergrid_c.specs.Calls.{ChangesTable, Sets};
 ghost use Rattle.papergrid_c.specs.Settings.{alignment_setting, border_setting, borders_setting, column_span_setting, horizontal_line_setting, padding_setting, row_span_setting, vertical_line_setting, vertical_setting};

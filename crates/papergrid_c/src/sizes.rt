@@ -21,7 +21,7 @@ pub fn sizing_of(least: u32) -> Sizing
     }
 }
 
-/// Finds the sizes of the table and keeps them until something more is told. Tells the total width in columns of a terminal and the
+/// Finds the sizes of the table and keeps them until something more is added. Tells the total width in columns of a terminal and the
 /// total height in lines, with all lines and without margins.
 #[unsafe(no_mangle)]
 pub extern "C" fn papergrid_estimate(

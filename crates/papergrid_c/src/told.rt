@@ -1,4 +1,4 @@
-//! A table that C tells call by call.
+//! A table that C builds call by call.
 
 ghost use Rattle.std.specs.Prelude.{◌≡◌, None};
 ghost use Rattle.papergrid_c.specs.Calls.{ChangesTable, EndsRow, Makes, PushesCell, PushesRows, ReadsSetting, Sets};
@@ -10,7 +10,7 @@ use papergrid_builder::{Builder, BuilderError};
 use papergrid_config::Setting;
 use std::alloc::Global;
 
-/// Puts a table of which nothing was told into the handle. A table that it had is dropped. Where memory is refused it has none.
+/// Puts a table without settings and texts into the handle. A table that it had is dropped. Where memory is refused it has none.
 #[unsafe(no_mangle)]
 pub extern "C" fn papergrid_new(alloc: Global, handle: &mut Handle) -> i32
     ensures { Makes handle.new.held result }

@@ -4,7 +4,7 @@ use papergrid_config::SpannedConfig;
 use papergrid_text::{IterRecords, Text, VecRecords};
 use std::alloc::{AllocError, Global};
 
-/// The cells of a table, as texts and as texts that were measured, with the counts that the records tell.
+/// The cells of a table, as texts and as texts that were measured, with the counts that the records give.
 #[derive(Drop)]
 pub struct Table {
     texts: VecRecords<String>,

@@ -10,7 +10,7 @@ use crate::size_questions::Sizes;
 use crate::table::{Table, Told};
 use std::alloc::{AllocError, Global};
 
-/// A configuration, rows of texts, the counts that the records tell, and sizes for the questions on places.
+/// A configuration, rows of texts, the counts that the records give, and sizes for the questions on places.
 #[derive(Drop)]
 pub struct TableCases {
     alloc: Global,

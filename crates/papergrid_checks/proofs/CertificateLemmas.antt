@@ -22,7 +22,7 @@ accepted_where problem sizes places answer are chosen checked = (
     none_out = chosen.none_out;
     fits = are.fits;
     cells = certificate_cells_of problem;
-    at_places = sym chosen.exact;
+    at_positions = sym chosen.exact;
     certificate = subst (λ xs. IsCertificate problem xs (certificate_cells_of problem)) (sym are.exact) chosen.certificate;
   }),
 )

@@ -7,7 +7,7 @@ use Rattle.papergrid_json.specs.Documents.{IsDocumentRead}
 use Rattle.papergrid_json.specs.Pictures.{IsDocumentDrawing}
 use Rattle.papergrid_json.specs.declared.document.Document.{Document}
 
--- these are the lines of the picture of the document that a JSON text tells, with sizes by shares
+-- these are the lines of the picture of the document that a JSON text describes, with sizes by shares
 abbrev pub IsOfDocument : List ℕ → List ℕ → Type 0
 IsOfDocument text output =
     (document : Document) × IsDocumentRead text (Ok document)

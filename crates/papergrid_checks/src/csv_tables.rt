@@ -1,10 +1,10 @@
 //! Tables of CSV texts.
 
-ghost use Rattle.std.specs.Prelude.{◌≡◌, ◌⊎◌, IfOk, IfSome, IsErrOf, IsSome, List, OnErr, Some, false, true, ℕ};
+ghost use Rattle.std.specs.Prelude.{◌≡◌, ◌⊎◌, IfOk, IfSome, IsErrOf, IsSome, List, MatchBool, OnErr, Some, false, true, ℕ};
 ghost use Rattle.std.specs.Io.KnownBytes.{Appends};
 ghost use Rattle.papergrid_values.specs.declared.per_direction.PerDirection.{PerDirection};
 ghost use Rattle.papergrid_tracks.specs.declared.solution.Solved.{Solved};
-ghost use Rattle.papergrid_csv.specs.Certified.{IsCsvCertified};
+ghost use Rattle.papergrid_csv.specs.Certified.{HasNoPicture, HasPicture, IsCsvCertified};
 ghost use Rattle.papergrid_csv.specs.Pictures.{IsCsvRun};
 ghost use Rattle.papergrid_csv.specs.Requests.{IsSeparating};
 ghost use Rattle.papergrid_csv.specs.Within.{IsRunWithin, cut_request};
@@ -14,7 +14,9 @@ ghost use Rattle.papergrid_csv.specs.declared.style.Style.TheVariants.{Plain};
 ghost use Rattle.papergrid_checks.specs.Written.{AppendsBeginning};
 
 use papergrid::{ByteSink, RunFault, Sink, Source, read_all};
-use papergrid_csv::{Alignment, CsvEnd, Request, Style, certify_csv, draw_csv, draw_csv_within};
+use papergrid_csv::{
+    Alignment, CsvEnd, Request, Style, certify_csv, draw_csv, draw_csv_within, has_picture,
+};
 use papergrid_layout::{PerDirection, Solved};
 use papergrid_values::Position;
 use std::alloc::{AllocError, Global};
@@ -30,7 +32,7 @@ pub fn aligned(alloc: Global, style: Style) -> Request
     request
 }
 
-/// Reads a CSV text to its end, writes its table by a request, and tells how that ended.
+/// Reads a CSV text to its end, writes its table by a request, and answers how that ended.
 pub fn csv_table<S: Source, W: Sink>(
     alloc: Global,
     request: &Request,
@@ -86,9 +88,9 @@ pub fn csv_width(
     request: &Request,
     text: &[u8],
 ) -> Result<Option<(usize, Vec<Position>)>, AllocError>
-    ensures { IfOk result (λ found. IfSome found (λ (width, places).
+    ensures { IfOk result (λ found. IfSome found (λ (width, positions).
         (both : PerDirection Solved) × IsCsvCertified request.now text.now both
-        × (width ≡ both.columns.total) × (both.columns.certificate ≡ Some places))) }
+        × (width ≡ both.columns.total) × (both.columns.certificate ≡ Some positions))) }
 {
     let Some(both) = certify_csv(alloc, request, text)? else {
         return Ok(None);
@@ -100,7 +102,22 @@ pub fn csv_width(
         ..
     } = columns;
     match certificate {
-        Some(places) => Ok(Some((total, places))),
+        Some(positions) => Ok(Some((total, positions))),
         None => Ok(None),
     }
+}
+
+/// Whether the table of a CSV text has a picture of at most so many columns.
+pub fn csv_fits(
+    alloc: Global,
+    width: usize,
+    request: &mut Request,
+    text: &[u8],
+) -> Result<bool, AllocError>
+    ensures { IfOk result (λ fits. MatchBool fits
+        (HasPicture (record request.old { max_width = Some width }) text.now)
+        (HasNoPicture (record request.old { max_width = Some width }) text.now)) }
+{
+    request.max_width = Some(width);
+    has_picture(alloc, request, text)
 }

@@ -7,7 +7,7 @@ use thiserror::Error;
 /// What keeps a JSON text from its picture.
 #[derive(Debug, Drop, Error)]
 pub enum TableError {
-    /// It tells no table.
+    /// It describes no table.
     #[error("{0}")]
     Unread(DocumentError),
     /// Its table has no picture, or only a beginning of it was written.

@@ -15,7 +15,7 @@ use papergrid::{Sink, Sizing};
 use papergrid_json::{draw_document, read_document};
 use std::alloc::Global;
 
-/// Writes the picture of the table that a JSON text tells.
+/// Writes the picture of the table that a JSON text describes.
 pub fn json_table<W: Sink>(alloc: Global, text: &[u8], writer: &mut W) -> Result<(), TableError>
     ensures picture { OnOk result ((output : List ℕ) × IsOfDocument text.now output
         × Appends (W.contents writer.old) (W.contents writer.new) output) }

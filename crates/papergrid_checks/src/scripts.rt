@@ -10,7 +10,7 @@ ghost use Rattle.papergrid_checks.specs.Scripts.{bad_number};
 use papergrid::{ReadSource, Reason, RunEnd, RunFault, Sink, Sizing, explain, run};
 use std::alloc::{AllocError, Global};
 
-/// Writes what the program answers to a script, and tells how that ended. Condition: the writer has not failed.
+/// Writes what the program answers to a script, and answers how that ended. Condition: the writer has not failed.
 pub fn answer_to<W: Sink>(alloc: Global, script: &[u8], writer: &mut W) -> Result<RunEnd, RunFault>
     requires { W.has_failed writer.old ≡ false }
     ensures end { IfOk result (λ end. end ≡ end_by ByShares script.now) }

@@ -67,7 +67,7 @@ pub fn laid_out(
     layout(alloc, settings, IterRecords::new(rows, 3, None))
 }
 
-/// A configuration that a list tells. Condition: each setting is in range.
+/// A configuration that a list makes. Condition: each setting is in range.
 pub fn told(alloc: Global, settings: Vec<Setting>) -> Result<SpannedConfig, Stopped>
     requires { All (λ setting. is_in_range setting ≡ true) settings.items }
     ensures { IfOk result (HasSettingHistory settings.items) }

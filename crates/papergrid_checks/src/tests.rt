@@ -1,5 +1,5 @@
 //! The worked tables of the documents, and what worked cases as data can't tell: the words of errors, tables of a caller's
-//! own types, the law of layouts, drawn tables that no document tells, readers and writers that fail once, and writers that
+//! own types, the law of layouts, drawn tables that no document describes, readers and writers that fail once, and writers that
 //! take a beginning of a picture alone. In `refused`, calls whose allocations fail.
 
 mod drawn;

@@ -1,4 +1,4 @@
--- The search for the deciding call finds the one that decides by its place.
+-- The search for the deciding call finds the one that decides by its index.
 use Rattle.std.proofs.Common.{◌≡◌, ◌⊎◌, ◌<◌, ◌≤◌, ◌+◌, ◌&&◌, ◌∷◌, [], ℕ, zero, suc, List, Bool, true, false, cond, Option, Some, None, length, take, get_or, reverse, refl, sym, ap, ◌∙◌, subst, arith, inl, inr, nat_eq}
 use Rattle.std.specs.Prelude.{find, slice_get, is_some, unwrap_or}
 use Rattle.std.proofs.lemmas.Bool.{and_parts}
@@ -126,7 +126,7 @@ same_entity (Row i) (Row j) h = ap (λ k. Row k) (eqb-true i j h)
 same_entity (Cell i j) (Cell k l) h = let both = and_parts (nat_eq i k) (nat_eq j l) h in λ t. Cell (eqb-true i k both.0 t) (eqb-true j l both.1 t)
 same_entity d e h = cc
 
--- ---- places in the list
+-- ---- indices in the list
 
 module _ {T : Type 0} (calls : List (MapCall T)) where
   -- the first n calls, newest first
@@ -146,7 +146,7 @@ module _ {T : Type 0} (calls : List (MapCall T)) where
   same_call : (i j : ℕ) (x y : MapCall T) → slice_get calls i ≡ Some x → slice_get calls j ≡ Some y → i ≡ j → x ≡ y
   same_call i j x y at_i at_j same = same_Some x y (sym at_i ∙ ap (slice_get calls) same ∙ at_j)
 
-  -- the first found, newest first, is the last by its place
+  -- the first found, newest first, is the last by its index
   find_last : (test : MapCall T → Bool) (n : ℕ) (x : MapCall T) → n ≤ length calls → find test (newest n) ≡ Some x → (i : ℕ) × IsLast calls test n i x × (test x ≡ true)
   find_last test zero x within h = cc
   find_last test (suc n) x within h =
@@ -272,7 +272,7 @@ module _ {T : Type 0} (calls : List (MapCall T)) where
       → (cell_override_value r c (newest n) ≡ Some v → OverrideStands calls r c n v)
       → (o : Option T) → cell_override_of r c (newest n) call ≡ o → or_older o (cell_override_value r c (newest n)) ≡ Some v → OverrideStands calls r c (suc n) v
   cell_override_after r c n call v at within ends_none rest (Some w) e h = record {
-    place = n;
+    index = n;
     before = omega arith;
     overrides_cell = cell_override_is r c n call v at (omega arith) (e ∙ h);
     last = λ j u after before cell_override. absurd (omega arith);
@@ -281,7 +281,7 @@ module _ {T : Type 0} (calls : List (MapCall T)) where
   cell_override_after r c n call v at within ends_none rest None e h =
       let older = rest h in
       record {
-        place = older.place;
+        index = older.index;
         before = omega (arith, older.before);
         overrides_cell = older.overrides_cell;
         last = λ j u after before cell_override. elim (earlier j n before) [
@@ -312,13 +312,13 @@ module _ {T : Type 0} (calls : List (MapCall T)) where
   cell_override_found r c zero v within h = absurd (omega (arith, h.before))
   cell_override_found r c (suc n) v within h =
       let here = call_at n (omega arith) in
-      ap (cell_override_value r c) (newest-more n here.0 here.1) ∙ cell_override_step r c here.0 (newest n) ∙ elim (earlier h.place n h.before) [
+      ap (cell_override_value r c) (newest-more n here.0 here.1) ∙ cell_override_step r c here.0 (newest n) ∙ elim (earlier h.index n h.before) [
         | inl less ↦
             let goes_on : ends_overrides r c here.0 ≡ false = h.counts n here.0 less (omega arith) here.1 in
             let none : cell_override_of r c (newest n) here.0 ≡ None =
             none_of (cell_override_of r c (newest n) here.0) (λ w e. h.last n w less (omega arith) (cell_override_is r c n here.0 w here.1 (omega arith) e)) in
             let rest = cell_override_found r c n v (omega arith) (record {
-              place = h.place;
+              index = h.index;
               before = less;
               overrides_cell = h.overrides_cell;
               last = λ j w after before cell_override. h.last j w after (omega arith) cell_override;

@@ -18,15 +18,15 @@ module _ {T : Type 0} where
   some_then f (Some line) h = refl
 
 -- the parts at the ends of a direction, and between them
-between : (place count : ℕ) (first end inner : Bool) → (place ≡ 0 → ⊥) → place ≤ count → (place ≡ count → ⊥) → inner ≡ true → at_ends place count first end inner ≡ true
-between place count first end inner later within inside h =
-    or_right _ _ (or_right _ _ (and_from _ _ (lt-ltb 0 place (omega (arith, later))) (and_from _ _ (lt-ltb place count (omega (arith, within, inside))) h)))
+between : (index count : ℕ) (first end inner : Bool) → (index ≡ 0 → ⊥) → index ≤ count → (index ≡ count → ⊥) → inner ≡ true → at_ends index count first end inner ≡ true
+between index count first end inner later within inside h =
+    or_right _ _ (or_right _ _ (and_from _ _ (lt-ltb 0 index (omega (arith, later))) (and_from _ _ (lt-ltb index count (omega (arith, within, inside))) h)))
 
-at_first : (place count : ℕ) (first end inner : Bool) → place ≡ 0 → first ≡ true → at_ends place count first end inner ≡ true
-at_first place count first end inner here h = or_left _ _ (and_from _ _ (eq-eqb place 0 here) h)
+at_first : (index count : ℕ) (first end inner : Bool) → index ≡ 0 → first ≡ true → at_ends index count first end inner ≡ true
+at_first index count first end inner here h = or_left _ _ (and_from _ _ (eq-eqb index 0 here) h)
 
-at_end : (place count : ℕ) (first end inner : Bool) → place ≡ count → end ≡ true → at_ends place count first end inner ≡ true
-at_end place count first end inner there h = or_right _ _ (or_left _ _ (and_from _ _ (eq-eqb place count there) h))
+at_end : (index count : ℕ) (first end inner : Bool) → index ≡ count → end ≡ true → at_ends index count first end inner ≡ true
+at_end index count first end inner there h = or_right _ _ (or_left _ _ (and_from _ _ (eq-eqb index count there) h))
 
 module _ {T : Type 0} (frame : Borders T) where
   vertical_part_found : (c count : ℕ) → c ≤ count → IsSome (frame_vertical frame c count) → at_ends c count (has_left frame) (has_right frame) (has_vertical frame) ≡ true
@@ -61,16 +61,16 @@ found_somewhere None (Some x) part global on_edge on_line on_frame h = inr (inr 
 found_somewhere None None (Some x) global on_edge on_line on_frame h = inr (inl (on_frame refl))
 found_somewhere None None None global on_edge on_line on_frame h = inl h
 
-module _ {T : Type 0} (places : BorderParts T) (p : Position) (count : ℕ) where
-  found_on_vertical : p.col ≤ count → IsSome (found_vertical places p count) → HasVertical places p.col count
+module _ {T : Type 0} (parts : BorderParts T) (p : Position) (count : ℕ) where
+  found_on_vertical : p.col ≤ count → IsSome (found_vertical parts p count) → HasVertical parts p.col count
   found_on_vertical within =
-      found_somewhere (places.vertical_edge p) _ (frame_vertical places.frame p.col count) places.global (λ edge. (p, refl, edge))
-      (some_then (λ l. l.main) (places.vertical_line p.col)) (vertical_part_found places.frame p.col count within)
+      found_somewhere (parts.vertical_edge p) _ (frame_vertical parts.frame p.col count) parts.global (λ edge. (p, refl, edge))
+      (some_then (λ l. l.main) (parts.vertical_line p.col)) (vertical_part_found parts.frame p.col count within)
 
-  found_on_horizontal : p.row ≤ count → IsSome (found_horizontal places p count) → HasHorizontal places p.row count
+  found_on_horizontal : p.row ≤ count → IsSome (found_horizontal parts p count) → HasHorizontal parts p.row count
   found_on_horizontal within =
-      found_somewhere (places.horizontal_edge p) _ (frame_horizontal places.frame p.row count) places.global (λ edge. (p, refl, edge))
-      (some_then (λ l. l.main) (places.horizontal_line p.row)) (horizontal_part_found places.frame p.row count within)
+      found_somewhere (parts.horizontal_edge p) _ (frame_horizontal parts.frame p.row count) parts.global (λ edge. (p, refl, edge))
+      (some_then (λ l. l.main) (parts.horizontal_line p.row)) (horizontal_part_found parts.frame p.row count within)
 
 -- what is shown is found, or the line is there
 found_or_line : (found : Option ℕ) (is_line : Bool) (missing : ℕ) → IsSome (found_or_missing found is_line missing) → IsSome found ⊎ (is_line ≡ true)

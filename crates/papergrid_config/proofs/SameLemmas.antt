@@ -133,7 +133,7 @@ module _ {T : Type 0} (eq : T → T → Bool) (exact : IsExact eq) where
       let a = and_parts _ _ h in
       λ i. exact_option eq exact x y a.0 i ∷ exact_parts xs ys a.1 i
 
-  -- the part at a place of equal lists
+  -- the part at an index of equal lists
   part : {xs ys : List (Option T)} (k : ℕ) → xs ≡ ys → slice_index_or xs k None ≡ slice_index_or ys k None
   part k is = ap (λ ps. slice_index_or ps k None) is
 

@@ -62,7 +62,7 @@ formatting settings p = record {
   allow_lines_alignment = line_alignment settings p;
 }
 
--- whatever settings tell the configuration, the value is what they decide for the position
+-- whatever settings make the configuration, the value is what they decide for the position
 abbrev pub IsEffectiveAt : {A : Type 0} → SpannedConfig → Position → (List Setting → Position → A) → A → Type 0
 IsEffectiveAt config p effective value =
     (settings : List Setting) → HasSettingHistory settings config → value ≡ effective settings p

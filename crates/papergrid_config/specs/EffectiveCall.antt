@@ -1,4 +1,4 @@
--- What a list of calls decides for a cell, by places in the list: apart from any search.
+-- What a list of calls decides for a cell, by indices in the list: apart from any search.
 use Rattle.std.specs.Prelude.{◌≡◌, ◌⊎◌, ℕ, ◌<◌, ◌==◌, ◌&&◌, Bool, true, false, List, Some, slice_get}
 use Rattle.papergrid_values.specs.declared.entity.Entity.{Entity}
 use Rattle.papergrid_values.specs.declared.entity.Entity.TheVariants.{Global, Column, Row, Cell}
@@ -61,11 +61,11 @@ module _ {T : Type 0} (calls : List (MapCall T)) where
   -- after the first n calls the cell has an override that counts: the last one, and no later call
   -- ends the overrides
   pub record OverrideStands (r c n : ℕ) (v : T) : Type 0 where
-    pub place : ℕ
-    pub before : place < n
-    pub overrides_cell : IsCellOverride r c place v
-    pub last : (j : ℕ) (w : T) → place < j → j < n → ¬ (IsCellOverride r c j w)
-    pub counts : (j : ℕ) (call : MapCall T) → place < j → j < n → slice_get calls j ≡ Some call →
+    pub index : ℕ
+    pub before : index < n
+    pub overrides_cell : IsCellOverride r c index v
+    pub last : (j : ℕ) (w : T) → index < j → j < n → ¬ (IsCellOverride r c j w)
+    pub counts : (j : ℕ) (call : MapCall T) → index < j → j < n → slice_get calls j ≡ Some call →
         ends_overrides r c call ≡ false
 
   -- after the first n calls the whole table has a value: the last of them that sets it sets it so

@@ -22,7 +22,7 @@ pub record HoldsEffectiveValues (settings : List Setting) (config : SpannedConfi
   pub characters : config.characters ≡ characters_of settings
   pub spans : config.spans ≡ spans_of settings
 
--- a configuration that the settings tell, and so one that holds for each cell what they decide
+-- a configuration that the settings make, and so one that holds for each cell what they decide
 pub record IsConfiguredBy (settings : List Setting) (config : SpannedConfig) : Type 0 where
   pub told : HasSettingHistory settings config
   pub effective : HoldsEffectiveValues settings config

@@ -31,10 +31,10 @@ pub fn history_decides()
         HoldsEffectiveValues settings config }
 {}
 
-/// What is decided for a cell is what its deciding call says, by its place in the list: the last
+/// What is decided for a cell is what its deciding call says, by its index in the list: the last
 /// override that counts, else the column's value that stands, else the row's, else the whole
 /// table's, else the one given at first; and nothing else is.
-pub fn effective_by_place<T>()
+pub fn effective_by_index<T>()
     ensures effective { (given : T) (calls : List (MapCall T)) (r c : ℕ) →
         IsEffective calls given r c (length calls)
         (effective_value given calls (record { row = r; col = c })) }
@@ -43,9 +43,9 @@ pub fn effective_by_place<T>()
         v ≡ effective_value given calls (record { row = r; col = c }) }
 {}
 
-/// There is a line among those that settings make exactly where what the settings leave at each
-/// place has one.
-pub fn lines_by_place()
+/// There is a line among those that settings make exactly where the parts that the settings
+/// leave have one.
+pub fn lines_by_parts()
     ensures vertical { (settings : List Setting) (col count : ℕ) →
         IsTrue (vertical_line_at (characters_of settings) col count)
         ↔ HasVertical (lines_from_settings settings) col count }

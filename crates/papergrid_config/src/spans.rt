@@ -146,11 +146,11 @@ impl SpannedConfig {
 
     /// Whether all of the positions are visible. Each span is looked at once. Condition: the columns
     /// of the positions rise, or their rows, as `direction` says.
-    pub fn are_cells_visible(&self, direction: Direction, places: &[Position]) -> bool
-        requires { AllPairs (AreRising direction) places.now }
-        ensures { IsTrue result ↔ All (λ p. IsTrue (is_visible self.now.spans p)) places.now }
+    pub fn are_cells_visible(&self, direction: Direction, positions: &[Position]) -> bool
+        requires { AllPairs (AreRising direction) positions.now }
+        ensures { IsTrue result ↔ All (λ p. IsTrue (is_visible self.now.spans p)) positions.now }
     {
-        self.spans.are_visible(direction, places)
+        self.spans.are_visible(direction, positions)
     }
 
     /// Whether the position stands right of an anchor, in its row and its rectangle.

@@ -21,8 +21,8 @@ impl ConfigView for SpannedConfig {
     }
 
     // Each span is looked at once.
-    fn are_visible(&self, direction: Direction, places: &[Position]) -> bool {
-        self.are_cells_visible(direction, places)
+    fn are_visible(&self, direction: Direction, positions: &[Position]) -> bool {
+        self.are_cells_visible(direction, positions)
     }
 
     fn anchors(&self, _alloc: Global) -> Result<Vec<Anchor>, AllocError> {

@@ -1,33 +1,44 @@
 -- What is found of a table, of rows and of an input.
 use Rattle.std.proofs.Common.{Global, Vec, ◌≡◌, ◌≢◌, ◌∙◌, ℕ, List, [], Option, None, Some, Result, Ok, Err, ap, length, map, refl, subst, sym}
-use Rattle.std.specs.Prelude.{IfOk, MatchOption}
+use Rattle.std.specs.Prelude.{Bool, IfOk, MatchBool, MatchOption, false, not, true}
 use Rattle.std.specs.Borrow.{Bor}
 use Rattle.std.specs.declared.alloc.AllocError.{AllocError}
 use Rattle.std.proofs.lemmas.List.{length-map}
+use Rattle.papergrid_values.specs.declared.direction.Direction.{Direction}
+use Rattle.papergrid_values.specs.declared.direction.Direction.TheVariants.{Columns, Rows}
 use Rattle.papergrid_values.specs.declared.per_direction.PerDirection.{PerDirection}
 use Rattle.papergrid_tracks.specs.declared.error.LayoutError.{LayoutError}
 use Rattle.papergrid_tracks.specs.declared.error.LayoutError.TheVariants as layout_errors
+use Rattle.papergrid_tracks.specs.Problem.{Problem}
+use Rattle.papergrid_tracks.specs.Sizings.{IsTotal}
 use Rattle.papergrid_tracks.specs.declared.sizing.Sizing.{Sizing}
 use Rattle.papergrid_tracks.specs.declared.solution.Solved.{Solved}
 use Rattle.papergrid_config.specs.Grids.{spanned_grid}
 use Rattle.papergrid_config.specs.declared.setting.Setting.{Setting}
 use Rattle.papergrid_config.specs.declared.spanned.SpannedConfig.{SpannedConfig}
+use Rattle.papergrid_walk.specs.Cells.{problem_of}
 use Rattle.papergrid_walk.specs.Measures.{text_measure}
 use Rattle.papergrid_text.proofs.RowSteps.{told_by}
-use Rattle.papergrid_layout.specs.Answers.{HoldAlong, IsBothRefused, UnlessMemoryError}
+use Rattle.papergrid_layout.specs.Answers.{AreBothSizes, HoldAlong, IsBothRefused, UnlessMemoryError}
 use Rattle.papergrid_layout.specs.Certificates.{IsCertifiedBy}
+use Rattle.papergrid_layout.specs.Places.{sized_table, total_along}
+use Rattle.papergrid_layout.proofs.PlaceLaws.{totals}
 use Rattle.papergrid_layout.proofs.Told.{both_told}
+use Rattle.papergrid_layout.proofs.TotalLemmas.{room-of}
+use Rattle.papergrid_draw.specs.Drawings.{Drawing, layout_of}
 use Rattle.papergrid_draw.specs.Errors.{draw_error_of}
-use Rattle.papergrid_draw.specs.Pictures.{Unsized}
+use Rattle.papergrid_draw.specs.Lined.{lined}
+use Rattle.papergrid_draw.specs.Pictures.{IsDrawingWith, Unsized, texts_drawing}
 use Rattle.papergrid_draw.specs.Sinks.{IsRefusal}
+use Rattle.papergrid_draw.specs.Tiles.{IsTileFault}
 use Rattle.papergrid_draw.specs.declared.error.DrawError.{DrawError}
 use Rattle.papergrid_draw.specs.declared.error.DrawError.TheVariants as draw_errors
-use Rattle.papergrid_csv.specs.Certified.{HasNoSizes, IsCsvCertified}
-use Rattle.papergrid_csv.specs.Pictures.{IsCsvRun, IsUnfitted}
+use Rattle.papergrid_csv.specs.Certified.{HasNoPicture, HasNoSizes, HasPicture, IsCsvCertified, has_sizes}
+use Rattle.papergrid_csv.specs.Pictures.{IsCsvRun, IsNarrow, IsUnfitted, IsWide}
 use Rattle.papergrid_csv.specs.Requests.{settings_of}
 use Rattle.papergrid_csv.specs.Rows.{AreRowsOf, IsUnread, held_texts, row_texts}
 use Rattle.papergrid_csv.specs.Shown.{AreCut}
-use Rattle.papergrid_csv.specs.ForProofs.Drawn.{Crossed, Faulted, IsConfigRun, IsFree, IsKeptBy, IsRowsRun, IsSettingsRun, Kept}
+use Rattle.papergrid_csv.specs.ForProofs.Drawn.{Crossed, Faulted, IsConfigRun, IsFree, IsKeptBy, IsRowsRun, IsSettingsRun, Kept, Sized}
 use Rattle.papergrid_csv.specs.ForProofs.Solved.{AreRowsSolved, AreSettingsSolved, unless_refused}
 use Rattle.papergrid_csv.specs.declared.reading.RowsError.{RowsError}
 use Rattle.papergrid_csv.specs.declared.reading.RowsError.TheVariants as rows_errors
@@ -35,7 +46,7 @@ use Rattle.papergrid_csv.specs.declared.request.Request.{Request}
 use Rattle.papergrid_csv.specs.declared.run.CsvEnd.{CsvEnd}
 use Rattle.papergrid_csv.specs.declared.run.CsvEnd.TheVariants.{Drawn, Hides, NoColumn, NotText, Ragged, Refused, TooWide, Unclosed}
 use Rattle.papergrid_csv.proofs.CutTextLemmas.{shown-length}
-use Rattle.papergrid_csv.proofs.RunLemmas.{csv-run-of, rows-run-of}
+use Rattle.papergrid_csv.proofs.RunLemmas.{csv-run-of, rows-run-of, tile-fault}
 
 -- ---- an answer
 
@@ -57,7 +68,7 @@ module _ {A B R : Type 0} (seen : A → B) (text : B → List ℕ) (items : R �
   abbrev texts : List (List (List ℕ))
   texts = map (λ row. map text (items row)) rows
 
-  -- what is found of rows that are told is found of their texts
+  -- what is found of rows that are yielded is found of their texts
   pub solved-told : (found : PerDirection Solved) →
       ((cells : List (List A)) × (map (map seen) cells ≡ map items given)
       × HoldAlong (spanned_grid config) (λ x. text_measure (text (seen x))) many cells (IsCertifiedBy sizing) found.columns found.rows) →
@@ -74,6 +85,67 @@ unsized-none Q request columns rows config (layout_errors.OutOfTable p) are =
     (Refused (draw_errors.OutOfTable p), refl, Faulted (draw_errors.OutOfTable p) refl tt (Unsized (layout_errors.OutOfTable p) refl are) refl)
 unsized-none Q request columns rows config layout_errors.TooLarge are = (Refused draw_errors.TooLarge, refl, Faulted draw_errors.TooLarge refl tt (Unsized layout_errors.TooLarge refl are) refl)
 unsized-none Q request columns rows config (layout_errors.Memory e) are = tt
+
+-- ---- the drawing of what is found
+
+module _ (request : Request) (columns : ℕ) (texts : List (List (List ℕ))) (config : SpannedConfig) (found : PerDirection Solved)
+    (certified : HoldAlong (spanned_grid config) text_measure columns texts (IsCertifiedBy request.sizing) found.columns found.rows) where
+  abbrev widths : List ℕ
+  widths = found.columns.sizes.items
+
+  abbrev heights : List ℕ
+  heights = found.rows.sizes.items
+
+  abbrev d : Drawing
+  d = texts_drawing config texts widths heights
+
+  abbrev problem : Direction → Problem
+  problem = problem_of (spanned_grid config) text_measure columns texts
+
+  sized : AreBothSizes (spanned_grid config) text_measure columns texts request.sizing widths heights
+  sized = record { widths = certified.widths.sizes; heights = certified.heights.sizes }
+
+  abbrev drawn : IsDrawingWith columns texts request.sizing config d
+  drawn = record { widths = widths; heights = heights; sized = sized; is = refl }
+
+  -- how many rows and columns the drawing has, and how many there are
+  abbrev drawn_shape : ℕ × ℕ
+  drawn_shape = (length heights, length widths)
+
+  abbrev own_shape : ℕ → ℕ × ℕ
+  own_shape many = (many, columns)
+
+  same-shape : own_shape (length texts) ≡ drawn_shape
+  same-shape =
+      let many = (room-of request.sizing (problem Columns) widths sized.widths).fits.one_each in
+      let high = (room-of request.sizing (problem Rows) heights sized.heights).fits.one_each in
+      ap own_shape (sym high) ∙ ap (λ n. (length heights, n)) (sym many)
+
+  pub shape-of : (many : ℕ) → length texts ≡ many → drawn_shape ≡ own_shape many
+  shape-of many counted = sym same-shape ∙ ap own_shape counted
+
+  total-of : (direction : Direction) (answer : ℕ) → IsTotal request.sizing (problem direction) answer → answer ≡ total_along (layout_of d) direction
+  total-of direction answer is =
+      let same = (totals request.sizing (spanned_grid config) text_measure columns texts widths heights sized direction answer).0 is in
+      same ∙ ap (λ (shape : ℕ × ℕ). total_along (sized_table (spanned_grid config) widths heights shape) direction) same-shape
+
+  pub total-width : found.columns.total ≡ total_along (layout_of d) Columns
+  total-width = total-of Columns found.columns.total (record { sizes = widths; are_sizes = certified.widths.sizes; adds_up = certified.widths.total })
+
+  pub total-height : found.rows.total ≡ total_along (layout_of d) Rows
+  total-height = total-of Rows found.rows.total (record { sizes = heights; are_sizes = certified.heights.sizes; adds_up = certified.heights.total })
+
+  -- spans keep it from its picture
+  untiled : (e : DrawError) → IsRefusal e → IsTileFault (layout_of d) e → IsConfigRun request columns texts config (Refused e) []
+  untiled e named fault = Sized d drawn (named, tile-fault d e fault named, refl)
+
+  pub untiled-none : (Q : PerDirection Solved → Type 0) (e : DrawError) → IsTileFault (layout_of d) e → IfOk (unless_refused e) (λ found. MatchOption found (HasNoSizes (IsConfigRun request columns texts config)) Q)
+  untiled-none Q (draw_errors.OutOfTable p) fault = (Refused (draw_errors.OutOfTable p), refl, untiled (draw_errors.OutOfTable p) tt fault)
+  untiled-none Q (draw_errors.NotTiled p) fault = (Refused (draw_errors.NotTiled p), refl, untiled (draw_errors.NotTiled p) tt fault)
+  untiled-none Q (draw_errors.NoRoom p) fault = absurd fault
+  untiled-none Q draw_errors.TooLarge fault = absurd fault
+  untiled-none Q (draw_errors.Memory e) fault = tt
+  untiled-none Q draw_errors.Write fault = absurd fault
 
 -- ---- settings
 
@@ -145,10 +217,39 @@ csv-found request input columns rows are result so = found-also
   where
     certified : (found : PerDirection Solved) → AreRowsSolved request columns rows found → IsCsvCertified request input found
     certified found solved =
-        let (shown, free, cut, so) = solved in
+        let (shown, free, cut, (config, configured, so)) = solved in
         record {
-          table = record { columns = columns; rows = rows; shown = shown; are = are; named = free.named; seen = free.seen; cut = cut };
-          config = so.0;
-          configured = so.1;
-          certified = so.2;
+          d = d request columns shown config found so.certified;
+          drawing = record {
+            table = record { columns = columns; rows = rows; shown = shown; are = are; named = free.named; seen = free.seen; cut = cut };
+            config = config;
+            configured = configured;
+            drawn = drawn request columns shown config found so.certified;
+            tiled = so.tiled;
+          };
+          widths = refl;
+          heights = refl;
+          width = total-width request columns shown config found so.certified;
+          height = total-height request columns shown config found so.certified;
+          certified = so.certified;
         }
+
+-- ---- a picture
+
+pub no-picture : (request : Request) (input : List ℕ) → HasNoSizes (IsCsvRun request input) → HasNoPicture request input
+no-picture request input (end, none, so) = (end, other end none, so)
+  where
+    other : (end : CsvEnd) → has_sizes end ≡ false → end ≢ Drawn
+    other end none is = let sized = ap has_sizes is in let no : ⊥ = cc in no
+
+module _ (request : Request) (input : List ℕ) (found : PerDirection Solved) (certified : IsCsvCertified request input found) where
+  narrow-picture : IsNarrow request.max_width found.columns.total → HasPicture request input
+  narrow-picture narrow = (lined certified.d, (certified.d, certified.drawing, subst (IsNarrow request.max_width) certified.width narrow, refl))
+
+  wide-none : IsWide request.max_width found.columns.total → HasNoPicture request input
+  wide-none wide = (TooWide found.columns.total, (λ is. cc), ((certified.d, certified.drawing, certified.width, wide), refl))
+
+  pub picture-by : (wide : Bool) → MatchBool wide (IsWide request.max_width found.columns.total) (IsNarrow request.max_width found.columns.total) →
+      MatchBool (not wide) (HasPicture request input) (HasNoPicture request input)
+  picture-by true is = wide-none is
+  picture-by false is = narrow-picture is

@@ -37,8 +37,8 @@ same-beginning kept left next m within = take-append-le m kept (next ∷ left) w
 with-next : (kept left : List ℕ) (next : ℕ) → take (length kept + 1) (kept ++ next ∷ left) ≡ kept ++ next ∷ []
 with-next kept left next = take-append-add kept (next ∷ left) 1
 
-pub cut-shortened : (columns place : ℕ) (line shown : List ℕ) → columns < width_of line → IsCutAt columns line place → shown ≡ take place line ++ encode 0x2026 → IsShortened columns line shown
-cut-shortened columns place line shown wide at is =
+pub cut-shortened : (columns count : ℕ) (line shown : List ℕ) → columns < width_of line → IsCutAt columns line count → shown ≡ take count line ++ encode 0x2026 → IsShortened columns line shown
+cut-shortened columns count line shown wide at is =
     let kept = at.kept in
     let cs = at.characters in
     let first : take (length kept) (chars line) ≡ kept = ap (take (length kept)) cs ∙ take-append_seam kept (at.next ∷ at.left) in
@@ -314,12 +314,12 @@ module _ (columns : ℕ) (line segment rest : List ℕ) (taken before end : ℕ)
             narrow = subst (AllNarrow columns) (sym (append-nil (so.passed ++ next_seen))) (still-narrow told counted small);
           }
 
--- ---- a place in the printable front
+-- ---- a count in the printable front
 
-none-kept : (place : ℕ) (line : List ℕ) → IsUtf8 line → place ≡ 0 → 0 < width_of line → IsCutAt 0 line place
-none-kept place line text is wide = by (chars line) refl
+none-kept : (count : ℕ) (line : List ℕ) → IsUtf8 line → count ≡ 0 → 0 < width_of line → IsCutAt 0 line count
+none-kept count line text is wide = by (chars line) refl
   where
-    by : (cs : List ℕ) → chars line ≡ cs → IsCutAt 0 line place
+    by : (cs : List ℕ) → chars line ≡ cs → IsCutAt 0 line count
     by [] same = absurd (let none = str_width-nil in let told = ap (str_width false) same in omega arith)
     by (c ∷ cs) same = record {
       kept = [];
@@ -332,8 +332,8 @@ none-kept place line text is wide = by (chars line) refl
       wide = omega arith;
     }
 
-some-kept : (k place n : ℕ) (line : List ℕ) → IsUtf8 line → IsFront line n → k + 1 ≤ n → place ≡ k → IsCutAt (k + 1) line place
-some-kept k place n line text front within is =
+some-kept : (k count n : ℕ) (line : List ℕ) → IsUtf8 line → IsFront line n → k + 1 ≤ n → count ≡ k → IsCutAt (k + 1) line count
+some-kept k count n line text front within is =
     let bound = front.within in
     let printable = printable-front line n (k + 1) front.all within in
     let low = ascii (take (k + 1) line) printable in
@@ -351,22 +351,22 @@ some-kept k place n line text front within is =
       wide = let told = ap (str_width false) one in let all = front-width line n (k + 1) front within in omega arith;
     }
 
-pub front-cut : (columns place n : ℕ) (line : List ℕ) → IsUtf8 line → IsFront line n → columns ≤ n → place ≡ columns - 1 → columns < width_of line → IsCutAt columns line place
-front-cut zero place n line text front within is wide = none-kept place line text (omega arith) wide
-front-cut (suc k) place n line text front within is wide =
+pub front-cut : (columns count n : ℕ) (line : List ℕ) → IsUtf8 line → IsFront line n → columns ≤ n → count ≡ columns - 1 → columns < width_of line → IsCutAt columns line count
+front-cut zero count n line text front within is wide = none-kept count line text (omega arith) wide
+front-cut (suc k) count n line text front within is wide =
     let next : k + 1 ≡ suc k = omega arith in
-    subst (λ (columns : ℕ). IsCutAt columns line place) next (some-kept k place n line text front (omega arith) (omega arith))
+    subst (λ (columns : ℕ). IsCutAt columns line count) next (some-kept k count n line text front (omega arith) (omega arith))
 
 -- ---- what is added
 
-pub adds-cut : {E : Type 0} (r : Result (Unit {0}) E) (columns place : ℕ) (line part old middle new : List ℕ) → columns < width_of line → IsCutAt columns line place → part ≡ take (place - 0) line →
+pub adds-cut : {E : Type 0} (r : Result (Unit {0}) E) (columns count : ℕ) (line part old middle new : List ℕ) → columns < width_of line → IsCutAt columns line count → part ≡ take (count - 0) line →
     middle ≡ old ++ part → OnOk r (new ≡ middle ++ encode 0x2026) → OnOk r (AddsLine columns line true old new)
-adds-cut (Ok x) columns place line part old middle new wide at part_is first second = (
-  take place line ++ encode 0x2026,
-  inr (cut-shortened columns place line (take place line ++ encode 0x2026) wide at refl),
-  second ∙ ap (λ t. t ++ encode 0x2026) (first ∙ ap (λ t. old ++ t) (part_is ∙ ap (λ n. take n line) (let none : place - 0 ≡ place = omega arith in none))) ∙ append_assoc old (take place line) (encode 0x2026),
+adds-cut (Ok x) columns count line part old middle new wide at part_is first second = (
+  take count line ++ encode 0x2026,
+  inr (cut-shortened columns count line (take count line ++ encode 0x2026) wide at refl),
+  second ∙ ap (λ t. t ++ encode 0x2026) (first ∙ ap (λ t. old ++ t) (part_is ∙ ap (λ n. take n line) (let none : count - 0 ≡ count = omega arith in none))) ∙ append_assoc old (take count line) (encode 0x2026),
 )
-adds-cut (Err e) columns place line part old middle new wide at part_is first second = tt
+adds-cut (Err e) columns count line part old middle new wide at part_is first second = tt
 
 -- ---- all lines so far
 

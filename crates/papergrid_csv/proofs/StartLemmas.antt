@@ -1,4 +1,4 @@
--- Where a record of a text begins, by places and by the states of the machine that reads it.
+-- Where a record of a text begins, by contexts and by the states of the machine that reads it.
 use Rattle.std.proofs.Common.{◌≡◌, ◌≢◌, ◌∙◌, ◌⊎◌, ◌+◌, ◌-◌, ◌<◌, ◌≤◌, ℕ, suc, List, [], ◌∷◌, ◌++◌, Bool, None, Some, true, false, ap, arith, drop, get_or, inl, inr, length, refl, sym, take}
 use Rattle.std.specs.Prelude.{◌==◌}
 use Rattle.std.specs.List.{prefix_len}
@@ -12,13 +12,13 @@ use Rattle.csv.specs.declared.parser.State.TheVariants as states
 use Rattle.csv.proofs.ReadFacts.{reached-more}
 use Rattle.papergrid_csv.specs.Rows.{config_by, config_of}
 use Rattle.papergrid_csv.specs.Starts.{HasNoRecord, IsRecordStart, after_line_ends, is_line_end}
-use Rattle.papergrid_csv.specs.ForProofs.Places.{behind_record, ends_record, place_by}
-use Rattle.papergrid_csv.specs.declared.quotes.Place.{Place}
-use Rattle.papergrid_csv.specs.declared.quotes.Place.TheVariants.{Start}
+use Rattle.papergrid_csv.specs.ForProofs.Contexts.{behind_record, ends_record, context_by}
+use Rattle.papergrid_csv.specs.declared.quotes.Context.{Context}
+use Rattle.papergrid_csv.specs.declared.quotes.Context.TheVariants.{Start}
 use Rattle.papergrid_csv.specs.declared.reading.Format.{Format}
 use Rattle.papergrid_csv.specs.declared.reading.Format.TheVariants.{Csv, Tsv}
 use Rattle.papergrid_csv.specs.declared.reading.Reading.{Reading}
-use Rattle.papergrid_csv.proofs.QuoteLemmas.{place_of}
+use Rattle.papergrid_csv.proofs.QuoteLemmas.{context_of}
 
 -- ---- a record, to its end
 
@@ -39,10 +39,10 @@ is_before s = false
 -- by one byte a record ends, or goes on
 abbrev IsStep : Format → State → ℕ → Type 0
 IsStep format s byte =
-    (is_end (step (config_by format) s byte).1 ≡ ends_record format (place_of s) byte)
-    × (ends_record format (place_of s) byte ≡ true → is_before (step (config_by format) s byte).0 ≡ true)
-    × (ends_record format (place_of s) byte ≡ false → is_in format (step (config_by format) s byte).0 ≡ true)
-    × (ends_record format (place_of s) byte ≡ false → place_of (step (config_by format) s byte).0 ≡ place_by format (place_of s) byte)
+    (is_end (step (config_by format) s byte).1 ≡ ends_record format (context_of s) byte)
+    × (ends_record format (context_of s) byte ≡ true → is_before (step (config_by format) s byte).0 ≡ true)
+    × (ends_record format (context_of s) byte ≡ false → is_in format (step (config_by format) s byte).0 ≡ true)
+    × (ends_record format (context_of s) byte ≡ false → context_of (step (config_by format) s byte).0 ≡ context_by format (context_of s) byte)
 
 one-step : (format : Format) (s : State) (byte : ℕ) → is_in format s ≡ true → IsStep format s byte
 one-step (Csv delimiter) states.StartField byte is = (grind (arith, nat_tests), λ e. grind (arith, nat_tests), λ e. grind (arith, nat_tests), λ e. grind (arith, nat_tests))
@@ -73,10 +73,10 @@ abbrev IsReadTo : Format → State → List (List ℕ) → List ℕ → List ℕ
 IsReadTo format s fields field text rest =
     (p : Read) × (next_record (config_by format) s fields field text ≡ Some p) × (is_before p.1 ≡ true) × (p.2 ≡ rest)
 
-read-to : (format : Format) (s : State) (fields : List (List ℕ)) (field text : List ℕ) → is_in format s ≡ true → IsReadTo format s fields field text (behind_record format (place_of s) text)
+read-to : (format : Format) (s : State) (fields : List (List ℕ)) (field text : List ℕ) → is_in format s ≡ true → IsReadTo format s fields field text (behind_record format (context_of s) text)
 unfolding next_record behind_record
 read-to format s fields field [] is = ((fields ++ field ∷ [], states.StartRecord, []), rw (in-ends format s is) refl, refl, refl)
-read-to format s fields field (byte ∷ text) is = by (ends_record format (place_of s) byte) refl (λ goes_on. read-to format next fields_next field_next text goes_on)
+read-to format s fields field (byte ∷ text) is = by (ends_record format (context_of s) byte) refl (λ goes_on. read-to format next fields_next field_next text goes_on)
   where
     one : IsStep format s byte
     one = one-step format s byte is
@@ -90,12 +90,12 @@ read-to format s fields field (byte ∷ text) is = by (ends_record format (place
     field_next : List ℕ
     field_next = field_after (step (config_by format) s byte).1 byte field
 
-    by : (ends : Bool) → ends_record format (place_of s) byte ≡ ends → (is_in format next ≡ true → IsReadTo format next fields_next field_next text (behind_record format (place_of next) text)) →
-        IsReadTo format s fields field (byte ∷ text) (behind_record format (place_of s) (byte ∷ text))
+    by : (ends : Bool) → ends_record format (context_of s) byte ≡ ends → (is_in format next ≡ true → IsReadTo format next fields_next field_next text (behind_record format (context_of next) text)) →
+        IsReadTo format s fields field (byte ∷ text) (behind_record format (context_of s) (byte ∷ text))
     by true ends more = ((fields_next, next, text), rw (one.0 ∙ ends) refl, one.1 ends, rw ends refl)
     by false ends more =
         let (p, found, before, left) = more (one.2 ends) in
-        (p, rw (one.0 ∙ ends) found, before, rw ends (left ∙ ap (λ place. behind_record format place text) (one.3 ends)))
+        (p, rw (one.0 ∙ ends) found, before, rw ends (left ∙ ap (λ context. behind_record format context text) (one.3 ends)))
 
 -- ---- line ends before a record
 
@@ -254,35 +254,35 @@ left-some reading input count start left so some shorter is =
 
 -- ---- byte by byte
 
-module _ (format : Format) (text : List ℕ) (place : Place) (at : ℕ) (within : at < length text) (so_far : behind_record format Start text ≡ behind_record format place (drop at text)) where
-  first : behind_record format Start text ≡ behind_record format place (get_or text at 0 ∷ drop (at + 1) text)
-  first = so_far ∙ ap (behind_record format place) (drop_more text at 0 within)
+module _ (format : Format) (text : List ℕ) (context : Context) (at : ℕ) (within : at < length text) (so_far : behind_record format Start text ≡ behind_record format context (drop at text)) where
+  first : behind_record format Start text ≡ behind_record format context (get_or text at 0 ∷ drop (at + 1) text)
+  first = so_far ∙ ap (behind_record format context) (drop_more text at 0 within)
 
-  pub behind-here : ends_record format place (get_or text at 0) ≡ true → take (length text - (at + 1)) (drop (at + 1) text) ≡ behind_record format Start text
+  pub behind-here : ends_record format context (get_or text at 0) ≡ true → take (length text - (at + 1)) (drop (at + 1) text) ≡ behind_record format Start text
   unfolding behind_record
   behind-here ends =
       let long : length (drop (at + 1) text) ≡ length text - (at + 1) = length-drop (at + 1) text in
       take_all (length text - (at + 1)) (drop (at + 1) text) (omega (arith, long)) ∙ sym (first ∙ (rw ends refl))
 
-  pub behind-next : ends_record format place (get_or text at 0) ≡ false → behind_record format Start text ≡ behind_record format (place_by format place (get_or text at 0)) (drop (at + 1) text)
+  pub behind-next : ends_record format context (get_or text at 0) ≡ false → behind_record format Start text ≡ behind_record format (context_by format context (get_or text at 0)) (drop (at + 1) text)
   unfolding behind_record
   behind-next goes_on = first ∙ (rw goes_on refl)
 
-pub behind-end : (format : Format) (text : List ℕ) (place : Place) (at : ℕ) → length text ≤ at → behind_record format Start text ≡ behind_record format place (drop at text) → [] ≡ behind_record format Start text
+pub behind-end : (format : Format) (text : List ℕ) (context : Context) (at : ℕ) → length text ≤ at → behind_record format Start text ≡ behind_record format context (drop at text) → [] ≡ behind_record format Start text
 unfolding behind_record
-behind-end format text place at past so_far = sym (so_far ∙ ap (behind_record format place) (drop_all at text past))
+behind-end format text context at past so_far = sym (so_far ∙ ap (behind_record format context) (drop_all at text past))
 
 -- ---- lengths
 
 pub shorter-ends : (text : List ℕ) → length (after_line_ends text) ≤ length text
 shorter-ends text = let long = length-drop (prefix_len is_line_end text) text in omega (arith, long)
 
-pub shorter-behind : (format : Format) (place : Place) (text : List ℕ) → length (behind_record format place text) ≤ length text
+pub shorter-behind : (format : Format) (context : Context) (text : List ℕ) → length (behind_record format context text) ≤ length text
 unfolding behind_record
-shorter-behind format place [] = omega arith
-shorter-behind format place (byte ∷ text) = by (ends_record format place byte) refl (shorter-behind format (place_by format place byte) text)
+shorter-behind format context [] = omega arith
+shorter-behind format context (byte ∷ text) = by (ends_record format context byte) refl (shorter-behind format (context_by format context byte) text)
   where
-    by : (ends : Bool) → ends_record format place byte ≡ ends → length (behind_record format (place_by format place byte) text) ≤ length text → length (behind_record format place (byte ∷ text)) ≤ length (byte ∷ text)
+    by : (ends : Bool) → ends_record format context byte ≡ ends → length (behind_record format (context_by format context byte) text) ≤ length text → length (behind_record format context (byte ∷ text)) ≤ length (byte ∷ text)
     by true is rest = rw is (omega arith)
     by false is rest = rw is (omega (arith, rest))
 

@@ -28,8 +28,8 @@ pub record HasNoSpans (grid : Grid) : Type 0 where
   pub single : (direction : Direction) (p : Position) → grid.span direction p ≡ 1
 
 -- positions are the same by row and column
-same-place : (p q : Position) → p.row ≡ q.row → p.col ≡ q.col → p ≡ q
-same-place p q row col = λ i. record { row = row i; col = col i }
+same-position : (p q : Position) → p.row ≡ q.row → p.col ≡ q.col → p ≡ q
+same-position p q row col = λ i. record { row = row i; col = col i }
 
 pub none-spanned : (settings : List Setting) (config : SpannedConfig) → flat_map span_calls settings ≡ [] → config.spans ≡ spans_of settings → HasNoSpans (spanned_grid config)
 none-spanned settings config none is =
@@ -47,7 +47,7 @@ none-spanned settings config none is =
     seen p = (visible_test (spans_made []) p).1 (λ anchor other covers.
         let across = one Columns anchor in
         let down = one Rows anchor in
-        other (same-place anchor p (omega (arith, covers.below_top, covers.above_bottom)) (omega (arith, covers.after_left, covers.before_right))))
+        other (same-position anchor p (omega (arith, covers.below_top, covers.above_bottom)) (omega (arith, covers.after_left, covers.before_right))))
 
 module _ (table : TableView) (spans : HasNoSpans table.grid) where
   within : (p : Position) → EndsOutside table p → ⊥
@@ -65,7 +65,7 @@ module _ (table : TableView) (spans : HasNoSpans table.grid) where
       let across = spans.single Columns other in
       let down = spans.single Rows other in
       let covers = owns.covers in
-      same-place other q (omega arith) (omega arith)
+      same-position other q (omega arith) (omega arith)
 
   pub tiled : IsTiled table
   tiled = record { within = within; once = λ q inside. (q, owns-itself q, only-itself q) }

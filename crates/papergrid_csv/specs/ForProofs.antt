@@ -3,7 +3,7 @@ pub mod Cuts
 pub mod Drawn
 pub mod Escapes
 pub mod Judging
-pub mod Places
+pub mod Contexts
 pub mod Read
 pub mod Solved
 pub mod Within

@@ -51,7 +51,7 @@ IsUnfitted (Some junctions) settings shape e =
     (plain : SpannedConfig) × IsConfiguredBy settings plain × IsFitFault plain shape e
 
 module _ (request : Request) (settings : List Setting) (shape : ℕ × ℕ) where
-  -- a configuration that was told these settings, and those by which its crossings fit the spans
+  -- a configuration made by these settings, and those by which its crossings fit the spans
   pub record IsConfigured (config : SpannedConfig) : Type 0 where
     pub fitted : List Setting
     pub fit : AreFitted request.junctions settings shape config fitted

@@ -1,4 +1,4 @@
--- The lines of the styles, and their paddings. A line is told by four characters: of its left end, of the line itself, of where
+-- The lines of the styles, and their paddings. A line is given by four characters: of its left end, of the line itself, of where
 -- a line between columns crosses it, and of its right end. `_` is for none.
 use Rattle.std.specs.Prelude.{ℕ, if◌then◌else◌, Bool, List, Option, Some, None, codes, get_or, ◌==◌}
 use Rattle.papergrid_values.specs.Borders.{frame_with}
@@ -7,9 +7,9 @@ use Rattle.papergrid_values.specs.declared.horizontal_line.HorizontalLine.{Horiz
 use Rattle.papergrid_csv.specs.declared.style.Style.{Style}
 use Rattle.papergrid_csv.specs.declared.style.Style.TheVariants.{Ascii, Blank, Dots, Extended, Markdown, Modern, Plain, Psql, Rounded, Rst, Sharp}
 
--- a part that a text tells at a place
+-- a part that a text tells at an index
 abbrev pub part_told : List ℕ → ℕ → Option ℕ
-part_told text place = if get_or text place 95 == 95 then None else Some (get_or text place 95)
+part_told text index = if get_or text index 95 == 95 then None else Some (get_or text index 95)
 
 -- a line across the table
 abbrev pub line_told : List ℕ → HorizontalLine ℕ

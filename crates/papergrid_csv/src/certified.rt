@@ -1,8 +1,8 @@
 //! The sizes of the table of a CSV text, and the cells that certify them.
 
-ghost use Rattle.std.specs.Prelude.{◌≡◌, ◌≢◌, All, IfOk, MatchOption, length, map, true, None, ℕ};
+ghost use Rattle.std.specs.Prelude.{◌≡◌, ◌≢◌, All, IfOk, MatchBool, MatchOption, length, map, true, None, ℕ};
 ghost use Rattle.papergrid_config.specs.Applied.{is_in_range};
-ghost use Rattle.papergrid_csv.specs.Certified.{HasNoSizes, IsCsvCertified};
+ghost use Rattle.papergrid_csv.specs.Certified.{HasNoPicture, HasNoSizes, HasPicture, IsCsvCertified};
 ghost use Rattle.papergrid_csv.specs.Pictures.{IsCsvRun};
 ghost use Rattle.papergrid_csv.specs.Requests.{settings_of};
 ghost use Rattle.papergrid_csv.specs.Rows.{held_texts, row_texts};
@@ -12,20 +12,20 @@ ghost use Rattle.papergrid_csv.specs.ForProofs.Solved.{AreConfigSolved, AreRowsS
 
 use crate::reading::{Rows, RowsError, read_rows};
 use crate::request::{Request, settings};
-use crate::run::{configured, judged};
+use crate::run::{configured, is_wide, judged};
 use crate::shown::cut_rows;
 use bumpalo::Bump;
 use papergrid_config::{Setting, SpannedConfig};
-use papergrid_draw::DrawError;
+use papergrid_draw::{DrawError, check_tiles};
 use papergrid_layout::certificates::certify;
 use papergrid_layout::{PerDirection, Solved};
 use papergrid_text::IterRecords;
 use std::alloc::{AllocError, Global};
 
-/// The sizes of the table of a CSV text, and the cells that certify them: of the columns the widths, in columns of a terminal, and
-/// of the rows the heights, in lines. They are those of the table that `draw_csv` draws, by the sizing of the request. The
-/// table may be wider than the request allows. There are none only where `draw_csv` ends otherwise than with `Drawn` or
-/// `TooWide`. Spans that do not tile the table keep it from its picture, but not always from sizes.
+/// The sizes of the table of a CSV text, their totals, and the cells that certify them: of the columns the widths, in columns of a
+/// terminal, and of the rows the heights, in lines. They are those of the drawing that `draw_csv` writes, by the sizing of the
+/// request, or would write if it were not too wide. There are some where `draw_csv` ends with `Drawn` or `TooWide`, and none where
+/// it ends otherwise.
 ///
 /// # Errors
 ///
@@ -42,6 +42,21 @@ pub fn certify_csv(
     match read_rows(alloc, &texts, request.reading, input) {
         Ok(rows) => certify_rows(alloc, request, &rows),
         Err(error) => unless_unread(error),
+    }
+}
+
+/// Whether the table of a CSV text has a picture that is no wider than the request allows: whether `draw_csv` ends with `Drawn`.
+///
+/// # Errors
+///
+/// `AllocError` where a growth is refused.
+pub fn has_picture(alloc: Global, request: &Request, input: &[u8]) -> Result<bool, AllocError>
+    ensures { IfOk result (λ has. MatchBool has (HasPicture request.now input.now)
+        (HasNoPicture request.now input.now)) }
+{
+    match certify_csv(alloc, request, input)? {
+        Some(found) => Ok(!is_wide(request.max_width, found.columns.total)),
+        None => Ok(false),
     }
 }
 
@@ -130,9 +145,13 @@ fn certify_configured(
         (AreConfigSolved request.now columns (map row_texts rows.now) config.now)) }
 {
     let records = IterRecords::new(rows, columns, Some(rows.len()));
-    match certify(alloc, records, config, request.sizing) {
-        Ok(found) => Ok(Some(found)),
-        Err(error) => unless_refused(DrawError::from(error)),
+    let found = match certify(alloc, records, config, request.sizing) {
+        Ok(found) => found,
+        Err(error) => return unless_refused(DrawError::from(error)),
+    };
+    match check_tiles(alloc, config, (rows.len(), columns)) {
+        Ok(()) => Ok(Some(found)),
+        Err(error) => unless_refused(error),
     }
 }
 

@@ -80,13 +80,13 @@ fn push_cut(shown: &mut String<&Bump>, columns: usize, line: &str) -> Result<(),
     if width(line) <= columns {
         return shown.push_str(line);
     }
-    let place = cut_place(columns, line);
-    shown.push_str(&line[..place])?;
+    let count = kept_bytes(columns, line);
+    shown.push_str(&line[..count])?;
     shown.push('…')
 }
 
 /// How many bytes of a wide line stay.
-fn cut_place(columns: usize, line: &str) -> usize
+fn kept_bytes(columns: usize, line: &str) -> usize
     requires { columns < width_of line.now }
     ensures { IsCutAt columns line.now result }
 {
@@ -94,11 +94,11 @@ fn cut_place(columns: usize, line: &str) -> usize
     if columns <= printable {
         return columns.saturating_sub(1);
     }
-    place_past_printable(columns, line, printable)
+    kept_past_printable(columns, line, printable)
 }
 
 /// The same of a line that begins with so many bytes of printable ASCII, which stay.
-fn place_past_printable(columns: usize, line: &str, printable: usize) -> usize
+fn kept_past_printable(columns: usize, line: &str, printable: usize) -> usize
     requires wide { columns < width_of line.now }
     requires printable { printable ≡ prefix_len (is_in_range 0x20 0x7E) line.now }
     requires narrow { printable < columns }

@@ -18,7 +18,7 @@ mod style;
 mod widest;
 mod within;
 
-pub use certified::certify_csv;
+pub use certified::{certify_csv, has_picture};
 pub use cutting::cut;
 pub use reading::{Format, Reading, Rows, RowsError, read_rows};
 pub use request::{Alignment, ColumnName, Request, Span};

@@ -6,15 +6,15 @@ ghost use Rattle.std.specs.List.{list_any};
 ghost use Rattle.csv.specs.Reading.{strip_bom};
 ghost use Rattle.papergrid_csv.specs.Rows.{IsUnclosed, IsUnclosedFrom};
 ghost use Rattle.papergrid_csv.specs.Starts.{is_line_end};
-ghost use Rattle.papergrid_csv.specs.declared.quotes.Place.TheVariants.{Quoted, Start};
-ghost use Rattle.papergrid_csv.specs.ForProofs.Places.{IsLastOutside, is_between, place_after, place_behind, plain_place};
+ghost use Rattle.papergrid_csv.specs.declared.quotes.Context.TheVariants.{Quoted, Start};
+ghost use Rattle.papergrid_csv.specs.ForProofs.Contexts.{IsLastOutside, is_between, context_after, context_behind, plain_context};
 
 use crate::reading::{Format, Reading};
 use papergrid_text::search::find_byte;
 
 /// Where a byte of a text stands.
 #[derive(Clone, Copy, PartialEq, Eq)]
-pub enum Place {
+pub enum Context {
     /// At the start of a field.
     Start,
     /// In a field without quotes, or after its quotes.
@@ -55,77 +55,77 @@ pub fn without_bom(input: &[u8]) -> &[u8]
 /// Whether the text ends between the quotes of a field. It goes from quote to quote, and looks at no more than the byte
 /// before each.
 fn ends_quoted(delimiter: u8, text: &[u8]) -> bool
-    ensures { IsTrue result ↔ (place_behind delimiter Start text.now ≡ Quoted) }
+    ensures { IsTrue result ↔ (context_behind delimiter Start text.now ≡ Quoted) }
 {
-    let (mut place, mut rest) = (Place::Start, text);
+    let (mut context, mut rest) = (Context::Start, text);
     let mut at = find_byte(rest, b'"');
     while at < rest.len() {
-        let before = place_past(delimiter, place, &rest[..at]);
-        place = place_after(delimiter, before, b'"');
+        let before = context_past(delimiter, context, &rest[..at]);
+        context = context_after(delimiter, before, b'"');
         rest = &rest[at + 1..];
         at = find_byte(rest, b'"');
     }
-    place_past(delimiter, place, rest) == Place::Quoted
+    context_past(delimiter, context, rest) == Context::Quoted
 }
 
 /// After how many bytes of a text the last one stands outside of quotes, where the text ends between them.
 fn last_outside(delimiter: u8, text: &[u8]) -> usize
-    requires { place_behind delimiter Start text.now ≡ Quoted }
+    requires { context_behind delimiter Start text.now ≡ Quoted }
     ensures last { IsLastOutside delimiter text.now result }
     ensures bound { result ≤ length text.now }
 {
-    let (mut place, mut last, mut at) = (Place::Start, 0, 0);
+    let (mut context, mut last, mut at) = (Context::Start, 0, 0);
     while at < text.len() {
-        if !is_between(place) {
+        if !is_between(context) {
             last = at;
         }
-        place = place_after(delimiter, place, text[at]);
+        context = context_after(delimiter, context, text[at]);
         at += 1;
     }
     last
 }
 
 /// Whether a byte stands between the quotes of a field, or right behind one that may close them.
-fn is_between(place: Place) -> bool
-    ensures { result ≡ is_between place }
+fn is_between(context: Context) -> bool
+    ensures { result ≡ is_between context }
 {
-    matches!(place, Place::Quoted | Place::Quote)
+    matches!(context, Context::Quoted | Context::Quote)
 }
 
 /// Where the byte after these stands, of which none is a quote.
-fn place_past(delimiter: u8, place: Place, bytes: &[u8]) -> Place
+fn context_past(delimiter: u8, context: Context, bytes: &[u8]) -> Context
     requires { list_any (λ b. b == 34) bytes.now ≡ false }
-    ensures { result ≡ place_behind delimiter place bytes.now }
+    ensures { result ≡ context_behind delimiter context bytes.now }
 {
-    if let Place::Quoted = place {
-        return place;
+    if let Context::Quoted = context {
+        return context;
     }
     if bytes.len() == 0 {
-        return place;
+        return context;
     }
-    plain_place(delimiter, bytes[bytes.len() - 1])
+    plain_context(delimiter, bytes[bytes.len() - 1])
 }
 
 /// Where the byte after this one stands.
-pub fn place_after(delimiter: u8, place: Place, byte: u8) -> Place
-    ensures { result ≡ place_after delimiter place byte }
+pub fn context_after(delimiter: u8, context: Context, byte: u8) -> Context
+    ensures { result ≡ context_after delimiter context byte }
 {
-    match (place, byte) {
-        (Place::Start | Place::Quote, b'"') => Place::Quoted,
-        (Place::Quoted, b'"') => Place::Quote,
-        (Place::Quoted, _) => Place::Quoted,
-        _ => plain_place(delimiter, byte),
+    match (context, byte) {
+        (Context::Start | Context::Quote, b'"') => Context::Quoted,
+        (Context::Quoted, b'"') => Context::Quote,
+        (Context::Quoted, _) => Context::Quoted,
+        _ => plain_context(delimiter, byte),
     }
 }
 
 /// Where the byte after this one stands, which is not between quotes, and no quote that begins a field.
-pub fn plain_place(delimiter: u8, byte: u8) -> Place
-    ensures { result ≡ plain_place delimiter byte }
+pub fn plain_context(delimiter: u8, byte: u8) -> Context
+    ensures { result ≡ plain_context delimiter byte }
 {
     if byte == delimiter || is_line_end(byte) {
-        Place::Start
+        Context::Start
     } else {
-        Place::Field
+        Context::Field
     }
 }
 

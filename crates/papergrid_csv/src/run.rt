@@ -305,7 +305,7 @@ fn draw_table<W: Sink>(
 }
 
 /// Whether a width is more than it may be.
-fn is_wide(greatest: Option<usize>, width: usize) -> bool
+pub fn is_wide(greatest: Option<usize>, width: usize) -> bool
     ensures { MatchBool result (IsWide greatest width) (IsNarrow greatest width) }
 {
     match greatest {

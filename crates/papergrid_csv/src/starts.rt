@@ -4,10 +4,10 @@ ghost use Rattle.std.specs.Prelude.{◌≡◌, ◌≤◌, length};
 ghost use Rattle.std.specs.Option.{MatchOption};
 ghost use Rattle.std.specs.List.{prefix_len};
 ghost use Rattle.papergrid_csv.specs.Starts.{HasNoRecord, IsRecordStart, after_line_ends, is_line_end};
-ghost use Rattle.papergrid_csv.specs.declared.quotes.Place.TheVariants.{Start};
-ghost use Rattle.papergrid_csv.specs.ForProofs.Places.{behind_record, ends_record, place_by};
+ghost use Rattle.papergrid_csv.specs.declared.quotes.Context.TheVariants.{Start};
+ghost use Rattle.papergrid_csv.specs.ForProofs.Contexts.{behind_record, ends_record, context_by};
 
-use crate::quotes::{Place, is_line_end, place_after, plain_place, without_bom};
+use crate::quotes::{Context, context_after, is_line_end, plain_context, without_bom};
 use crate::reading::{Format, Reading};
 
 /// After how many bytes of a text the record begins that has so many others before it, if there is one. No line end stands
@@ -45,34 +45,34 @@ fn line_ends(text: &[u8]) -> usize
 fn past_record(format: Format, text: &[u8]) -> &[u8]
     ensures { result.now ≡ behind_record format Start text.now }
 {
-    let (mut place, mut at) = (Place::Start, 0);
+    let (mut context, mut at) = (Context::Start, 0);
     while at < text.len() {
-        if ends_record(format, place, text[at]) {
+        if ends_record(format, context, text[at]) {
             return &text[at + 1..];
         }
-        place = place_by(format, place, text[at]);
+        context = context_by(format, context, text[at]);
         at += 1;
     }
     &[]
 }
 
-/// Whether a byte at this place ends a record.
-fn ends_record(format: Format, place: Place, byte: u8) -> bool
-    ensures { result ≡ ends_record format place byte }
+/// Whether a byte in this context ends a record.
+fn ends_record(format: Format, context: Context, byte: u8) -> bool
+    ensures { result ≡ ends_record format context byte }
 {
-    match (format, place) {
-        (Format::Csv(_), Place::Quoted) => false,
+    match (format, context) {
+        (Format::Csv(_), Context::Quoted) => false,
         (Format::Csv(delimiter), _) => byte != delimiter && is_line_end(byte),
         (Format::Tsv, _) => is_line_end(byte),
     }
 }
 
 /// Where the byte after this one stands.
-fn place_by(format: Format, place: Place, byte: u8) -> Place
-    ensures { result ≡ place_by format place byte }
+fn context_by(format: Format, context: Context, byte: u8) -> Context
+    ensures { result ≡ context_by format context byte }
 {
     match format {
-        Format::Csv(delimiter) => place_after(delimiter, place, byte),
-        Format::Tsv => plain_place(b'\t', byte),
+        Format::Csv(delimiter) => context_after(delimiter, context, byte),
+        Format::Tsv => plain_context(b'\t', byte),
     }
 }

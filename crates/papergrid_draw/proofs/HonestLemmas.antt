@@ -1,4 +1,4 @@
--- Lines that are drawn as those of UTF-8 texts are as wide as is told of them.
+-- Lines that are drawn as those of UTF-8 texts are as wide as is said of them.
 use Rattle.std.proofs.Common.{◌≡◌, ◌∙◌, ap, inl, inr, refl, subst, sym, ℕ, ◌+◌, ◌<◌, List, [], ◌∷◌, ◌++◌, append_assoc, arith, drop, get_or, length, length-append, lit<, map}
 use Rattle.std.specs.Prelude.{All, IsUtf8}
 use Rattle.std.specs.List.{join_with_byte}
@@ -47,7 +47,7 @@ parts-utf8 (part ∷ next ∷ more) utf8 =
 lines-utf8 : (text : List ℕ) → IsUtf8 text → All IsUtf8 (split_lines text)
 lines-utf8 text utf8 = parts-utf8 (split_lines text) (subst IsUtf8 (sym (join_with_byte-slice_split 10 text)) utf8)
 
--- and with their widths they are as wide as is told
+-- and with their widths they are as wide as is said
 all-measured : (parts : List (List ℕ)) → All IsUtf8 parts → All IsMeasuredLine (map with_width parts)
 all-measured [] all = All-nil IsMeasuredLine
 all-measured (part ∷ parts) all =

@@ -10,7 +10,7 @@ pub lent_at : {A : Type 0} (items : List A) (i : ℕ) (item : Option (Bor A)) �
 lent_at items i None is = sym (slice_get_past items i (omega arith))
 lent_at items i (Some item) is = sym (slice_get_read items (length items) i item.now refl (omega arith) is.1)
 
--- what it is made into stands at its place in the list of all
+-- what it is made into stands at its index in the list of all
 pub made_at : {A B : Type 0} (of : A → B) (items : List A) (i : ℕ) (item : Option (Bor A)) → IsItemAt items i item →
     option_map of (option_copied item) ≡ slice_get (map of items) i
 made_at of items i item is = ap (option_map of) (lent_at items i item is) ∙ sym (slice_get-map of items i)

@@ -149,7 +149,7 @@ module _ {W : Type 0} (contents : W → Option (List ℕ)) (has_failed has_stall
       WritesPicture contents has_failed has_stalled (IsDrawingWith columns texts sizing config) (IsFaultWith columns texts sizing config) text_of old new result
   drawn-so d is = draws-so contents has_failed has_stalled (IsDrawingWith columns texts sizing config) (IsFaultWith columns texts sizing config) text_of d is (λ e fault. Undrawn d is fault)
 
--- by a configuration that settings tell
+-- by a configuration that settings make
 module _ (settings : List Setting) (config : SpannedConfig) (told : IsConfiguredBy settings config) (columns : ℕ) (texts : List (List (List ℕ))) (sizing : Sizing) where
   pub drawn-by-settings : (d : Drawing) → IsDrawingWith columns texts sizing config d → IsDrawingBy columns texts sizing settings d
   drawn-by-settings d is = (config, told, is)

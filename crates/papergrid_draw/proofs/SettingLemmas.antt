@@ -20,7 +20,7 @@ use Rattle.papergrid_values.specs.declared.position.Position.{Position}
 use Rattle.papergrid_values.specs.declared.sides.Sides.{Sides}
 use Rattle.papergrid_values.specs.declared.vertical_line.VerticalLine.{VerticalLine}
 use Rattle.papergrid_tables.specs.BorderCalls as lines
-use Rattle.papergrid_tables.specs.BorderCalls.{BorderCall, at_place, below, corner_part, edge_part, is_corner_of, is_edge_of, right_of}
+use Rattle.papergrid_tables.specs.BorderCalls.{BorderCall, at_position, below, corner_part, edge_part, is_corner_of, is_edge_of, right_of}
 use Rattle.papergrid_tables.specs.BorderParts.{BorderParts, crossing_part, found_horizontal, found_intersection, found_vertical, frame_horizontal, frame_vertical, no_parts, of_frame, of_horizontal_line, of_vertical_line, only_if, parts_after_call, parts_from}
 use Rattle.papergrid_tables.specs.Overrides as overrides
 use Rattle.papergrid_tables.specs.Overrides.{OffsetCall, found_override, is_same_offset, override_at, overrides_from}
@@ -124,8 +124,8 @@ module _ {T : Type 0} (Q : T → Type 0) where
     corner = λ p. tt;
   }
 
-  place-holds : (written p : Position) (part : Option T) → Holds part → Holds (at_place written p part)
-  place-holds written p part holds = if-holds (position_eq written p) part None holds tt
+  position-holds : (written p : Position) (part : Option T) → Holds part → Holds (at_position written p part)
+  position-holds written p part holds = if-holds (position_eq written p) part None holds tt
 
   line-holds : {L : Type 0} (P : L → Type 0) (test : Bool) (a b : Option L) → IfSome a P → IfSome b P → IfSome (if test then a else b) P
   line-holds P true a b first second = first
@@ -139,21 +139,21 @@ module _ {T : Type 0} (Q : T → Type 0) where
     vertical_line = are.vertical_line;
     horizontal_edge = λ p.
         or-holds (edge_part Rows cell b p) (old.horizontal_edge p)
-        (or-holds (at_place cell p b.top) (at_place (below cell) p b.bottom) (place-holds cell p b.top (is 0 None (omega arith)))
-        (place-holds (below cell) p b.bottom (is 1 None (omega arith))))
+        (or-holds (at_position cell p b.top) (at_position (below cell) p b.bottom) (position-holds cell p b.top (is 0 None (omega arith)))
+        (position-holds (below cell) p b.bottom (is 1 None (omega arith))))
         (are.horizontal_edge p);
     vertical_edge = λ p.
         or-holds (edge_part Columns cell b p) (old.vertical_edge p)
-        (or-holds (at_place cell p b.left) (at_place (right_of cell) p b.right) (place-holds cell p b.left (is 2 None (omega arith)))
-        (place-holds (right_of cell) p b.right (is 3 None (omega arith))))
+        (or-holds (at_position cell p b.left) (at_position (right_of cell) p b.right) (position-holds cell p b.left (is 2 None (omega arith)))
+        (position-holds (right_of cell) p b.right (is 3 None (omega arith))))
         (are.vertical_edge p);
     corner = λ p.
         or-holds (corner_part cell b p) (old.corner p)
-        (or-holds (at_place cell p b.left_top_corner) _ (place-holds cell p b.left_top_corner (is 4 None (omega arith)))
-        (or-holds (at_place (right_of cell) p b.right_top_corner) _ (place-holds (right_of cell) p b.right_top_corner (is 6 None (omega arith)))
-        (or-holds (at_place (below cell) p b.left_bottom_corner) (at_place (below (right_of cell)) p b.right_bottom_corner)
-        (place-holds (below cell) p b.left_bottom_corner (is 5 None (omega arith)))
-        (place-holds (below (right_of cell)) p b.right_bottom_corner (is 7 None (omega arith))))))
+        (or-holds (at_position cell p b.left_top_corner) _ (position-holds cell p b.left_top_corner (is 4 None (omega arith)))
+        (or-holds (at_position (right_of cell) p b.right_top_corner) _ (position-holds (right_of cell) p b.right_top_corner (is 6 None (omega arith)))
+        (or-holds (at_position (below cell) p b.left_bottom_corner) (at_position (below (right_of cell)) p b.right_bottom_corner)
+        (position-holds (below cell) p b.left_bottom_corner (is 5 None (omega arith)))
+        (position-holds (below (right_of cell)) p b.right_bottom_corner (is 7 None (omega arith))))))
         (are.corner p);
   }
   after-call (lines.RemoveBorder cell) old is are = record {

@@ -24,7 +24,7 @@ pub record IsFill (piece : Piece) : Type 0 where
   pub text : piece.text ≡ fill_text character count
   pub columns : piece.columns ≡ count
 
--- a text that is as wide as is told
+-- a text that is as wide as is said
 pub record IsTold (text : List ℕ) (columns : ℕ) : Type 0 where
   pub spelled : IsSpelled text
   pub wide : columns ≡ width_of text

@@ -106,7 +106,7 @@ SetsCrossing config shape junctions setting =
     × (crossing_character config shape p ≢ character)
     × (junction_at junctions (bare_drawing config shape) p.row p.col ≡ Some character)
 
--- a configuration that was told settings becomes the other by further ones
+-- a configuration made by settings becomes the other by further ones
 pub record BecomesBy (old new : SpannedConfig) (further : List Setting) : Type 0 where
   pub history : List Setting
   pub told : HasSettingHistory history old

@@ -20,7 +20,7 @@ pub record Drawing : Type 0 where
 abbrev pub layout_of : Drawing → TableView
 layout_of d = table_by d.config d.widths d.heights d.shape
 
--- the drawing of a table with what is told of its cells
+-- the drawing of a table with what is given of its cells
 abbrev pub drawn_of : {C : Type 0} → (C → Position → List (List ℕ × ℕ)) → (C → Position → Option (List ℕ × List ℕ)) → TableParts → C → Drawing
 drawn_of lines color parts cells = record {
   config = parts.config;

@@ -45,7 +45,7 @@ module _ (columns : ℕ) (texts : List (List (List ℕ))) (sizing : Sizing) wher
     Undrawn : (d : Drawing) → IsDrawingWith config d → IsDrawFault d e → IsFaultWith config e
 
   module _ (settings : List Setting) where
-    -- the drawing by a configuration that the settings tell
+    -- the drawing by a configuration that the settings make
     abbrev pub IsDrawingBy : Drawing → Type 0
     IsDrawingBy d = (config : SpannedConfig) × IsConfiguredBy settings config × IsDrawingWith config d
 

@@ -1,4 +1,4 @@
--- Where the texts of a drawn table are as wide as is told of them, and separators stand between.
+-- Where the texts of a drawn table are as wide as is said of them, and separators stand between.
 use Rattle.std.specs.Prelude.{◌≡◌, ◌+◌, ◌<◌, ◌⊎◌, ℕ, All, Bool, IsUtf8, List, [], ◌∷◌, None, Option, Some, flat_map, true}
 use Rattle.std.specs.List.{list_all}
 use Rattle.papergrid_values.specs.Borders.{border_parts, frame_parts}
@@ -23,7 +23,7 @@ use Rattle.papergrid_draw.specs.Pieces.{Piece}
 abbrev pub pieces_text : List Piece → List ℕ
 pieces_text pieces = flat_map (λ (piece : Piece). piece.text) pieces
 
--- a line of a cell is UTF-8, and as wide as is told
+-- a line of a cell is UTF-8, and as wide as is said
 abbrev pub IsMeasuredLine : List ℕ × ℕ → Type 0
 IsMeasuredLine line = IsUtf8 line.0 × (line.1 ≡ width_of line.0)
 

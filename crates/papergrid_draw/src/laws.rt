@@ -52,7 +52,7 @@ pub fn columns_of_lines()
 {}
 
 /// The text of each line, without colours, is as wide as the table, as `unicode_width` counts it, where the lines of
-/// cells are as wide as is told and separators stand between them.
+/// cells are as wide as is said and separators stand between them.
 pub fn lines_as_wide()
     ensures { (d : Drawing) → IsTiled (layout_of d) → AllHaveRoom d →
         IsHonest d → HasSeparators d → AreApart d →
@@ -60,7 +60,7 @@ pub fn lines_as_wide()
         (drawn_lines d) }
 {}
 
-/// Lines are as wide as is told where each cell is drawn by the lines of its text, which is UTF-8.
+/// Lines are as wide as is said where each cell is drawn by the lines of its text, which is UTF-8.
 pub fn honest_texts<C>()
     ensures { (d : Drawing) (text : C → List ℕ) (rows : List (List C)) →
         ((p : Position) → IsVisibleCell (layout_of d) p →

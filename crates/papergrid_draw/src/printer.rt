@@ -62,7 +62,7 @@ where
 }
 
 /// Writes the picture of a table as text, one line at a time: nothing of a table without rows or columns. It takes
-/// some numbers for each column, and a line. A writer of text tells nothing of a text that it did not take.
+/// some numbers for each column, and a line. A writer of text says nothing of a text that it did not take.
 ///
 /// # Errors
 ///

@@ -33,7 +33,7 @@ module _ (document : Document) (sizing : Sizing) (config : SpannedConfig) where
   abbrev IsTooLarge : LayoutError → List ℕ → List ℕ → Type 0
   IsTooLarge e widths heights = (e ≡ layout_errors.TooLarge) × IsTotalTooLarge (view_of (record { config = config; widths = widths; heights = heights }))
 
-  -- what is so unless memory failed, where sizes are told
+  -- what is so unless memory failed, where sizes are given
   own-error : (own : OwnSizes) (e : LayoutError) → document.sizes ≡ Some own → UnlessMemoryError e (AreNoSizesOf document sizing config (Some own) e) →
       UnlessMemoryError e (AreNoSizesOf document sizing config document.sizes e)
   own-error own (layout_errors.OutOfTable p) is are = subst (λ s. AreNoSizesOf document sizing config s (layout_errors.OutOfTable p)) (sym is) are
@@ -101,7 +101,7 @@ module _ (document : Document) (sizing : Sizing) (config : SpannedConfig) where
   unsized layout_errors.TooLarge are is = Unsized layout_errors.TooLarge refl are
   unsized (layout_errors.Memory e) are is = absurd is
 
-  -- by a configuration that the settings tell
+  -- by a configuration that the settings make
   module _ (told : IsConfiguredBy document.settings.items config) where
     pub drawn-by-settings : (d : Drawing) → IsDocumentDrawingWith document sizing config d → IsDocumentDrawing document sizing d
     drawn-by-settings d is = (config, told, is)

@@ -104,7 +104,7 @@ all_read read items done n h = ap (behind read done) (past_last items n h) ∙ a
 -- where one fault is that of another
 pub refused_with : {A B C : Type 0} (Is : A → B → Type 0) (told : Option A) (one : Option C) (fault : Fault) → (one ≡ None → told ≡ None) → IsReading {A = C} one (Err fault) → IsReadingAs Is told (Err fault)
 refused_with Is told one Memory none h = tt
-refused_with Is told one (Unexpected place wanted) none h = none h
+refused_with Is told one (Unexpected path wanted) none h = none h
 refused_with Is told one (UnknownSetting index name) none h = none h
 
 -- as many items as were counted

@@ -82,8 +82,8 @@ past_test false told answer is h = absurd (true≢false (sym is))
 
 at_test : {A : Type 0} (so : Bool) (told : Option A) (fault : Fault) → IsTest so (Err fault) → IsReading (when so told) (Err fault)
 at_test so told Memory h = tt
-at_test true told (Unexpected place wanted) h = absurd (true≢false h)
-at_test false told (Unexpected place wanted) h = refl
+at_test true told (Unexpected path wanted) h = absurd (true≢false h)
+at_test false told (Unexpected path wanted) h = refl
 at_test true told (UnknownSetting index name) h = absurd (true≢false h)
 at_test false told (UnknownSetting index name) h = refl
 

@@ -16,7 +16,7 @@ use Rattle.serde_json.proofs.Views.{view-lookup, view-Object}
 use Rattle.papergrid_config.specs.Applied.{is_in_range}
 use Rattle.papergrid_config.specs.declared.setting.Setting.{Setting}
 use Rattle.papergrid_values.specs.declared.position.Position.{Position}
-use Rattle.papergrid_json.specs.Documents.{AreInRange, IsDocument, Told, accepted_at, are_enough, colored_at, columns_of, draft_in, items_at, fitted, longest_row, optional_list_at, own_sizes_at, row_texts_in, own_sizes, told_in}
+use Rattle.papergrid_json.specs.Documents.{AreInRange, IsDocument, DocumentOptions, accepted_at, are_enough, colored_at, columns_of, draft_in, items_at, fitted, longest_row, optional_list_at, own_sizes_at, row_texts_in, own_sizes, document_parts_in}
 use Rattle.papergrid_json.specs.ForProofs.Reading.{IsDraft, IsFinished, IsOfDraft, IsTableRead, draft_columns}
 use Rattle.papergrid_json.specs.Settings.{setting_at}
 use Rattle.papergrid_json.specs.Spots.{each, number_at, optional, when}
@@ -74,17 +74,17 @@ made : {A B : Type 0} (f : A → B) (o : Option A) (b : B) → option_map f o �
 made f None b h = absurd (none-some b h)
 made f (Some a) b h = (a, refl, same_Some _ _ h)
 
-draft_in_range : (document : Data) (told : Told) → draft_in document ≡ Some told → AreInRange told.settings
+draft_in_range : (document : Data) (told : DocumentOptions) → draft_in document ≡ Some told → AreInRange told.settings
 unfolding draft_in
 draft_in_range document told h =
     let parts = made _ _ told (when_told (is_some (json.as_object document)) _ told h) in
     let both = zip_some _ _ parts.0 parts.1 in
-    subst (λ (t : Told). AreInRange t.settings) parts.2 (listed_in_range _ _ (zip_some _ _ parts.0.0 both.0).1)
+    subst (λ (t : DocumentOptions). AreInRange t.settings) parts.2 (listed_in_range _ _ (zip_some _ _ parts.0.0 both.0).1)
 
-told_in_range : (document : Data) (told : Told × List (List (List ℕ))) → told_in document ≡ Some told → AreInRange told.0.settings
+told_in_range : (document : Data) (told : DocumentOptions × List (List (List ℕ))) → document_parts_in document ≡ Some told → AreInRange told.0.settings
 told_in_range document told h = by_both (option_zip (draft_in document) (row_texts_in document)) refl h
   where
-    by_both : (o : Option (Told × List (List (List ℕ)))) → option_zip (draft_in document) (row_texts_in document) ≡ o
+    by_both : (o : Option (DocumentOptions × List (List (List ℕ)))) → option_zip (draft_in document) (row_texts_in document) ≡ o
         → option_and_then (λ t. when (are_enough (columns_of t.0 t.1) (length t.1) t.0.sizes) (Some t)) o ≡ Some told → AreInRange told.0.settings
     by_both None is h = absurd (none-some told h)
     by_both (Some t) is h =
@@ -105,9 +105,9 @@ pub draft_told : (document : Data) (columns : Option ℕ) (settings : List Setti
 unfolding draft_in
 draft_told document columns settings sizes colors an_object a b c d = rw (an_object, a, b, c, d) refl
 
-module _ (value : Data) (told : Told) (draft : Draft) (rows : List (List (List ℕ))) (document : Document) where
+module _ (value : Data) (told : DocumentOptions) (draft : Draft) (rows : List (List (List ℕ))) (document : Document) where
   pub is_told : draft_in value ≡ Some told → row_texts_in value ≡ Some rows → IsDraft told draft → are_enough (draft_columns draft rows) (length rows) (option_map own_sizes draft.sizes) ≡ true
-      → told_in value ≡ Some (told, rows)
+      → document_parts_in value ≡ Some (told, rows)
   is_told a b is enough =
       let enough_told : are_enough (columns_of told rows) (length rows) told.sizes ≡ true = subst (λ columns. are_enough columns (length rows) told.sizes ≡ true) (same_columns is) (subst (λ sizes. are_enough (draft_columns draft rows) (length rows) sizes ≡ true) is.sizes enough) in
       rw (a, b, enough_told) refl
@@ -126,7 +126,7 @@ module _ (value : Data) (told : Told) (draft : Draft) (rows : List (List (List �
         colors = λ position. ap (λ colors. get position_cmp colors position) of.colors ∙ is.colors position;
       }
 
-pub finished_document : (value : Data) (told : Told) (draft : Draft) (rows texts : List (List (List ℕ))) (document : Document)
+pub finished_document : (value : Data) (told : DocumentOptions) (draft : Draft) (rows texts : List (List (List ℕ))) (document : Document)
     → draft_in value ≡ Some told → row_texts_in value ≡ Some rows → IsDraft told draft → texts ≡ rows → IsFinished draft texts (Ok document)
     → IsTableRead value (Ok document)
 finished_document value told draft rows texts document a b is same done =

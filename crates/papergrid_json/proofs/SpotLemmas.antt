@@ -1,4 +1,4 @@
--- The items of a list that stands at a place.
+-- The items of a list that stands at a path.
 use Rattle.std.proofs.Common.{◌≡◌, ◌∷◌, [], suc, List, length, ap, refl}
 use Rattle.serde_json.specs.View.{items_view}
 use Rattle.serde_json.specs.declared.value.Value.{Value}

@@ -41,8 +41,8 @@ colored_at here = when (is_list_of 4 here)
 
 -- ---- a document
 
--- what a document tells but its rows, as far as it tells that: the number of columns; settings; widths and heights of its own; colours of texts
-pub record Told : Type 0 where
+-- what a document has but its rows: the number of columns, settings, widths and heights of its own, colours of texts. What it does not have is none, or empty
+pub record DocumentOptions : Type 0 where
   pub columns : Option ℕ
   pub settings : List Setting
   pub sizes : Option (List ℕ × List ℕ)
@@ -58,7 +58,7 @@ own_sizes_at here = option_zip (list_at number_at (member_at (codes "widths") he
 
 module _ (document : Data) where
   -- this of a JSON value; nothing where it is no object, or where a part of it tells nothing
-  unfoldable pub draft_in : Option Told
+  unfoldable pub draft_in : Option DocumentOptions
   draft_in = when (is_some (json.as_object document))
       (of_both (λ first second. record { columns = first.0; settings = first.1; sizes = second.0; colors = second.1 })
       (option_zip (optional number_at (json.get (codes "columns") document)) (optional_list_at accepted_at (json.get (codes "settings") document)))
@@ -74,7 +74,7 @@ longest_row [] = 0
 longest_row (row ∷ rows) = max (length row) (longest_row rows)
 
 -- the number of columns: as told, or that of the longest row
-abbrev pub columns_of : Told → List (List (List ℕ)) → ℕ
+abbrev pub columns_of : DocumentOptions → List (List (List ℕ)) → ℕ
 columns_of told rows = unwrap_or told.columns (longest_row rows)
 
 -- whether there is a width for each column and a height for each row
@@ -87,8 +87,8 @@ abbrev pub fitted : ℕ → ℕ → List ℕ × List ℕ → List ℕ × List �
 fitted columns rows sizes = (take columns sizes.0, take rows sizes.1)
 
 -- what a JSON value tells as a document, with the texts of its rows; nothing where its own sizes are too few
-abbrev pub told_in : Data → Option (Told × List (List (List ℕ)))
-told_in document = option_and_then
+abbrev pub document_parts_in : Data → Option (DocumentOptions × List (List (List ℕ)))
+document_parts_in document = option_and_then
     (λ told. when (are_enough (columns_of told.0 told.1) (length told.1) told.0.sizes) (Some told))
     (option_zip (draft_in document) (row_texts_in document))
 
@@ -114,7 +114,7 @@ abbrev pub document_texts : Document → List (List (List ℕ))
 document_texts document = texts_of_rows document.rows.items
 
 -- a document with what is told
-pub record IsDocument (told : Told × List (List (List ℕ))) (document : Document) : Type 0 where
+pub record IsDocument (told : DocumentOptions × List (List (List ℕ))) (document : Document) : Type 0 where
   pub columns : document.columns ≡ columns_of told.0 told.1
   pub settings : document.settings.items ≡ told.0.settings
   pub rows : document_texts document ≡ told.1
@@ -124,20 +124,20 @@ pub record IsDocument (told : Told × List (List (List ℕ))) (document : Docume
 -- ---- what is read
 
 -- what a text tells as JSON
-abbrev pub document_in : List ℕ → Option (Told × List (List (List ℕ)))
-document_in text = option_and_then told_in (read text)
+abbrev pub document_in : List ℕ → Option (DocumentOptions × List (List (List ℕ)))
+document_in text = option_and_then document_parts_in (read text)
 
 -- the setting that a text tells as JSON, if it may be applied
 abbrev pub setting_in : List ℕ → Option Setting
 setting_in text = option_and_then (λ value. accepted_at (Some value)) (read text)
 
-module _ {T A : Type 0} (told_in : List ℕ → Option T) (Is : T → A → Type 0) where
+module _ {T A : Type 0} (found_in : List ℕ → Option T) (Is : T → A → Type 0) where
   -- a value is read of a text that tells it so; a text that is refused is no JSON in UTF-8, or tells none
   abbrev pub IsReadBy : List ℕ → Result A DocumentError → Type 0
-  IsReadBy text (Ok value) = (told : T) × (told_in text ≡ Some told) × Is told value
+  IsReadBy text (Ok value) = (told : T) × (found_in text ≡ Some told) × Is told value
   IsReadBy text (Err Memory) = ⊤
   IsReadBy text (Err (Syntax line byte)) = IsUtf8 text → read text ≡ None
-  IsReadBy text (Err error) = (is_some (read text) ≡ true) × (told_in text ≡ None)
+  IsReadBy text (Err error) = (is_some (read text) ≡ true) × (found_in text ≡ None)
 
 -- a document is read so
 abbrev pub IsDocumentRead : List ℕ → Result Document DocumentError → Type 0

@@ -61,7 +61,7 @@ module _ (document : Document) (sizing : Sizing) where
       Unsized : (error : LayoutError) → e ≡ draw_error_of error → AreNoSizesOf document.sizes error → IsDocumentFaultWith e
       Undrawn : (d : Drawing) → IsDocumentDrawingWith d → IsDrawFault d e → IsDocumentFaultWith e
 
-  -- its drawing by a configuration that its settings tell
+  -- its drawing by a configuration that its settings make
   abbrev pub IsDocumentDrawing : Drawing → Type 0
   IsDocumentDrawing d = (config : SpannedConfig) × IsConfiguredBy document.settings.items config × IsDocumentDrawingWith config d
 

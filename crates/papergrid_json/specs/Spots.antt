@@ -1,4 +1,4 @@
--- Plain values and lists at a place of a JSON value, where something may stand or nothing.
+-- Plain values and lists at a path of a JSON value, where something may stand or nothing.
 use Rattle.std.specs.Prelude.{ℕ, suc, ◌-◌, Bool, true, false, if◌then◌else◌, List, [], ◌∷◌, Option, Some, None, option_and_then, option_map, unwrap_or, is_some, ◌==◌}
 use Rattle.std.specs.Option.{option_zip}
 use Rattle.serde_json.specs.Data.{Data, Items, no_items, item}

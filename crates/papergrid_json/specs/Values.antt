@@ -20,7 +20,7 @@ use Rattle.papergrid_values.specs.declared.sides.Sides.{Sides}
 use Rattle.papergrid_values.specs.declared.vertical_line.VerticalLine.{VerticalLine}
 use Rattle.papergrid_json.specs.Spots.{character_at, is_list_of, item_at, member_at, number_at, optional, two_numbers_at, text_at, when, word_at}
 
--- what two places tell, together
+-- what two values tell, together
 abbrev pub of_both : {A B C : Type 0} → (A → B → C) → Option A → Option B → Option C
 of_both make first second = option_map (λ told. make told.0 told.1) (option_zip first second)
 

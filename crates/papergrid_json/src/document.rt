@@ -10,7 +10,7 @@ ghost use Rattle.papergrid_json.specs.ForProofs.Reading.{AreItems, AreOwnSizes, 
 ghost use Rattle.papergrid_json.specs.Documents.{AreColors, AreInRange, IsDocumentRead, IsSettingRead, accepted_at, are_enough, colored_at, draft_in, longest_row, items_at, optional_list_at, own_sizes_at, row_texts_in, own_sizes, texts_of_rows};
 
 use crate::error::{DocumentError, Fault, told};
-use crate::place::Place;
+use crate::path::DocumentPath;
 use crate::setting::setting;
 use crate::spot::Spot;
 use crate::values::{color_of, optional};
@@ -29,7 +29,7 @@ pub struct OwnSizes {
     pub heights: Vec<usize>,
 }
 
-/// A table that a document tells.
+/// A table that a document describes.
 #[derive(Debug, Drop)]
 pub struct Document {
     pub columns: usize,
@@ -43,7 +43,7 @@ pub struct Document {
     pub colors: BTreeMap<Position, ANSIBuf>,
 }
 
-/// The table that a document tells: an object of `records`, a list of rows of texts, and of what else it tells: `columns`, the
+/// The table that a document describes: an object of `records`, a list of rows of texts, and of what else it tells: `columns`, the
 /// number of columns, which is else that of the texts of the longest row; `settings`, a list of lists of a name and values
 /// (`SETTINGS`); `sizes`, an object of `widths` and `heights`; `colors`, a list of a row, a column and the text before what is coloured
 /// and the one after it. Other members are passed over.
@@ -59,7 +59,7 @@ pub fn read_document(alloc: Global, input: &[u8]) -> Result<Document, DocumentEr
     table(alloc, parsed(alloc, input)?)
 }
 
-/// The setting that a JSON list of its name and its values tells, as in the `settings` of a document.
+/// The setting that a JSON list of its name and its values describes, as in the `settings` of a document.
 ///
 /// # Errors
 ///
@@ -71,7 +71,7 @@ pub fn read_setting(alloc: Global, input: &[u8]) -> Result<Setting, DocumentErro
     let value = parsed(alloc, input)?;
     let spot = Spot {
         value: Some(&value),
-        place: Place::of("setting"),
+        path: DocumentPath::of("setting"),
     };
     match accepted(alloc, 0, &spot) {
         Ok(setting) => Ok(setting),
@@ -90,7 +90,7 @@ fn parsed(alloc: Global, input: &[u8]) -> Result<Value, DocumentError>
     }
 }
 
-/// The table that a JSON value tells.
+/// The table that a JSON value describes.
 fn table(alloc: Global, document: Value) -> Result<Document, DocumentError>
     ensures { IsTableRead (view document) result }
 {
@@ -107,7 +107,7 @@ fn table(alloc: Global, document: Value) -> Result<Document, DocumentError>
     }
 }
 
-/// What a document tells but its rows.
+/// What a document describes but its rows.
 #[derive(Drop)]
 struct Draft {
     /// The number of columns.
@@ -117,13 +117,13 @@ struct Draft {
     colors: BTreeMap<Position, ANSIBuf>,
 }
 
-/// What a JSON value tells but its rows.
+/// What a JSON value describes but its rows.
 #[tactic(auto, unfolding(crate::specs::Documents::draft_in))]
 fn drafted<'v>(alloc: Global, document: &'v Value) -> Result<Draft, Fault<'v>>
     ensures { IsReadingAs IsDraft (draft_in (view document.now)) result }
 {
     if !document.is_object() {
-        return Err(Fault::Unexpected(Place::of("the document"), "an object with records"));
+        return Err(Fault::Unexpected(DocumentPath::of("the document"), "an object with records"));
     }
     Ok(Draft {
         columns: optional(alloc, &Spot::member(document, "columns"))?,
@@ -133,7 +133,7 @@ fn drafted<'v>(alloc: Global, document: &'v Value) -> Result<Draft, Fault<'v>>
     })
 }
 
-/// The settings that stand at a place, none where nothing does.
+/// The settings that stand at a path, none where nothing does.
 fn settings<'v>(alloc: Global, spot: &Spot<'v>) -> Result<Vec<Setting>, Fault<'v>>
     ensures { IsReadingAs AreItems (optional_list_at accepted_at (found spot.now)) result }
 {
@@ -144,7 +144,7 @@ fn settings<'v>(alloc: Global, spot: &Spot<'v>) -> Result<Vec<Setting>, Fault<'v
     Ok(settings)
 }
 
-/// The setting that stands at a place, with this number among them, if it is in range.
+/// The setting that stands at a path, with this number among them, if it is in range.
 #[tactic(auto, unfolding(crate::specs::Documents::accepted_at))]
 fn accepted<'v>(alloc: Global, index: usize, spot: &Spot<'v>) -> Result<Setting, Fault<'v>>
     ensures in_range { IfOk result (λ setting. is_in_range setting ≡ true) }
@@ -158,7 +158,7 @@ fn accepted<'v>(alloc: Global, index: usize, spot: &Spot<'v>) -> Result<Setting,
     Ok(setting)
 }
 
-/// How many items the list at a place has, 0 where nothing stands there.
+/// How many items the list at a path has, 0 where nothing stands there.
 #[tactic(auto, unfolding(crate::specs::Documents::items_at))]
 fn count<'v>(spot: &Spot<'v>, wanted: &'static str) -> Result<usize, Fault<'v>>
     ensures { IsReading (option_map count (items_at (found spot.now))) result }
@@ -172,7 +172,7 @@ fn count<'v>(spot: &Spot<'v>, wanted: &'static str) -> Result<usize, Fault<'v>>
     }
 }
 
-/// The sizes that stand at a place, if something does.
+/// The sizes that stand at a path, if something does.
 #[tactic(auto, unfolding(crate::specs::Spots::optional))]
 fn sizes<'v>(alloc: Global, spot: &Spot<'v>) -> Result<Option<OwnSizes>, Fault<'v>>
     ensures { IsReadingAs (λ told sizes. option_map own_sizes sizes ≡ told)
@@ -186,7 +186,7 @@ fn sizes<'v>(alloc: Global, spot: &Spot<'v>) -> Result<Option<OwnSizes>, Fault<'
     Ok(Some(OwnSizes { widths, heights }))
 }
 
-/// The colours of texts that stand at a place, none where nothing does.
+/// The colours of texts that stand at a path, none where nothing does.
 fn colors<'v>(alloc: Global, spot: &Spot<'v>) -> Result<BTreeMap<Position, ANSIBuf>, Fault<'v>>
     ensures { IsReadingAs AreColors (optional_list_at colored_at (found spot.now)) result }
 {
@@ -198,7 +198,7 @@ fn colors<'v>(alloc: Global, spot: &Spot<'v>) -> Result<BTreeMap<Position, ANSIB
     Ok(colors)
 }
 
-/// The colour of a text that stands at a place, and its position.
+/// The colour of a text that stands at a path, and its position.
 #[tactic(auto, unfolding(crate::specs::Documents::colored_at))]
 fn color<'v>(alloc: Global, spot: &Spot<'v>) -> Result<(Position, ANSIBuf), Fault<'v>>
     ensures { IsReading (colored_at (found spot.now)) result }
@@ -211,16 +211,16 @@ fn color<'v>(alloc: Global, spot: &Spot<'v>) -> Result<(Position, ANSIBuf), Faul
 
 const COLOR: &str = "[row, column, text before, text after]";
 
-/// The rows of texts that a JSON value tells.
+/// The rows of texts that a JSON value has.
 #[tactic(auto, unfolding(crate::specs::Documents::row_texts_in, crate::specs::Spots::list_at))]
 fn rows(alloc: Global, document: Value) -> Result<Vec<Vec<String>>, Fault<'static>>
     ensures { IsReadingAs (λ told rows. texts_of_rows rows.items ≡ told)
         (row_texts_in (view document)) result }
 {
-    let place = Place::of("records");
+    let path = DocumentPath::of("records");
     match records(document) {
-        Some(records) => rows_of(alloc, place, records),
-        None => Err(Fault::Unexpected(place, "a list of rows, each a list of texts")),
+        Some(records) => rows_of(alloc, path, records),
+        None => Err(Fault::Unexpected(path, "a list of rows, each a list of texts")),
     }
 }
 
@@ -249,7 +249,7 @@ fn listed(value: Option<Value>) -> Option<Vec<Value>>
 /// The rows of texts that JSON values are.
 fn rows_of(
     alloc: Global,
-    place: Place,
+    path: DocumentPath,
     records: Vec<Value>,
 ) -> Result<Vec<Vec<String>>, Fault<'static>>
     ensures { IsReadingAs (λ told rows. texts_of_rows rows.items ≡ told)
@@ -257,7 +257,7 @@ fn rows_of(
 {
     let mut rows = Vec::with_capacity(alloc, records.len())?;
     for record in records {
-        let at = place.at(rows.len());
+        let at = path.at(rows.len());
         rows.push(row(alloc, at, record)?)?;
     }
     Ok(rows)
@@ -265,18 +265,22 @@ fn rows_of(
 
 /// The texts of a row.
 #[tactic(auto, unfolding(crate::specs::Spots::list_at))]
-fn row(alloc: Global, place: Place, cells: Value) -> Result<Vec<String>, Fault<'static>>
+fn row(alloc: Global, path: DocumentPath, cells: Value) -> Result<Vec<String>, Fault<'static>>
     ensures { IsReadingAs (λ told row. map string_bytes row.items ≡ told)
         (list_at text_at (Some (view cells))) result }
 {
     let Value::Array(cells) = cells else {
-        return Err(Fault::Unexpected(place, "a list of texts"));
+        return Err(Fault::Unexpected(path, "a list of texts"));
     };
-    texts(alloc, place, cells)
+    texts(alloc, path, cells)
 }
 
 /// The texts that JSON values are.
-fn texts(alloc: Global, place: Place, cells: Vec<Value>) -> Result<Vec<String>, Fault<'static>>
+fn texts(
+    alloc: Global,
+    path: DocumentPath,
+    cells: Vec<Value>,
+) -> Result<Vec<String>, Fault<'static>>
     ensures { IsReadingAs (λ told texts. map string_bytes texts.items ≡ told)
         (each text_at (items_view cells.items)) result }
 {
@@ -284,7 +288,7 @@ fn texts(alloc: Global, place: Place, cells: Vec<Value>) -> Result<Vec<String>, 
     for cell in cells {
         match cell {
             Value::String(text) => texts.push(text)?,
-            _ => return Err(Fault::Unexpected(place.at(texts.len()), "a text")),
+            _ => return Err(Fault::Unexpected(path.at(texts.len()), "a text")),
         }
     }
     Ok(texts)
@@ -319,7 +323,7 @@ fn finished(draft: Draft, rows: Vec<Vec<String>>) -> Result<Document, Fault<'sta
     })
 }
 
-/// A width for each column and a height for each row, if sizes are told.
+/// A width for each column and a height for each row, if sizes are given.
 fn enough(
     sizes: Option<OwnSizes>,
     columns: usize,
@@ -345,5 +349,5 @@ fn enough(
 fn missing(name: &'static str, wanted: &'static str) -> Fault<'static>
     ensures { result ≢ Memory }
 {
-    Fault::Unexpected(Place::of("sizes").field(name), wanted)
+    Fault::Unexpected(DocumentPath::of("sizes").field(name), wanted)
 }

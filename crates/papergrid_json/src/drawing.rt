@@ -26,7 +26,7 @@ use std::alloc::{AllocError, Global};
 /// # Errors
 ///
 /// `OutOfTable` with the first visible cell that overflows the table, `NotTiled` with the first position that no
-/// visible cell covers, or that two do, `NoRoom` with the first visible cell that is wider than its place, where sizes are told, and
+/// visible cell covers, or that two do, `NoRoom` with the first visible cell that is wider than its place, where sizes are given, and
 /// `TooLarge`, before anything is written; `Memory` and `Write` after a beginning of the picture.
 pub fn draw_document<W: Sink>(
     alloc: Global,
@@ -44,7 +44,7 @@ pub fn draw_document<W: Sink>(
     draw_by(alloc, &config, document, sizing, sink)
 }
 
-/// The configuration that settings tell, or out of memory.
+/// The configuration that settings make, or out of memory.
 ///
 /// Condition: each setting is in range, as those of a document that was read are.
 // It is made where its caller keeps it: it is large, and is not moved.
@@ -83,12 +83,12 @@ fn draw_by<W: Sink>(
     draw_lines(alloc, &table, &cells, room_of(document), sink)
 }
 
-/// The table of a document by a configuration, as that which its settings tell. The widths and heights are those that it tells,
+/// The table of a document by a configuration, as that which its settings make. The widths and heights are those that it tells,
 /// else those that are chosen so.
 ///
 /// # Errors
 ///
-/// `OutOfTable` with the first visible cell that overflows the table, where no sizes are told; `TooLarge` where these, or those that
+/// `OutOfTable` with the first visible cell that overflows the table, where no sizes are given; `TooLarge` where these, or those that
 /// are chosen so, come with all lines to more than the greatest `usize`; `Memory` in place of any answer.
 pub fn document_table<'a>(
     alloc: Global,

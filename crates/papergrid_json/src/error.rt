@@ -4,7 +4,7 @@ ghost use Rattle.std.specs.Prelude.{◌≡◌, IfOk};
 ghost use Rattle.papergrid_json.specs.ForProofs.Reading.{IsErrorOf};
 ghost use Rattle.papergrid_json.specs.declared.error.Fault.TheVariants.{Memory};
 
-use crate::place::Place;
+use crate::path::DocumentPath;
 use std::alloc::{AllocError, AllocFailed, Global};
 use thiserror::Error;
 
@@ -14,7 +14,7 @@ pub enum DocumentError {
     /// It is not JSON, at this line and this byte of it. Both are counted from 1.
     #[error("line {0}, byte {1}: not JSON")]
     Syntax(usize, usize),
-    /// At this place, as `settings[3][1].left`, stands something else than what is wanted there.
+    /// At this path, as `settings[3][1].left`, stands something else than what is wanted there.
     #[error("{path}: not {wanted}")]
     Unexpected { path: String, wanted: &'static str },
     /// No setting has the name of this one.
@@ -38,7 +38,7 @@ impl From<AllocError> for DocumentError {
 /// The same, while the document is read.
 #[derive(Clone, Copy)]
 pub enum Fault<'v> {
-    Unexpected(Place, &'static str),
+    Unexpected(DocumentPath, &'static str),
     UnknownSetting(usize, &'v str),
     Memory,
 }
@@ -73,8 +73,8 @@ fn owned(alloc: Global, fault: Fault<'_>) -> Result<DocumentError, AllocError>
     ensures { IfOk result (IsErrorOf fault.entry) }
 {
     Ok(match fault {
-        Fault::Unexpected(place, wanted) => DocumentError::Unexpected {
-            path: format!(in alloc; "{place}")?,
+        Fault::Unexpected(path, wanted) => DocumentError::Unexpected {
+            path: format!(in alloc; "{path}")?,
             wanted,
         },
         Fault::UnknownSetting(index, name) => DocumentError::UnknownSetting {

@@ -7,7 +7,7 @@ mod drawing;
 mod error;
 mod forms;
 mod parts;
-mod place;
+mod path;
 mod setting;
 mod spot;
 mod values;

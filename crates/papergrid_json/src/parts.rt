@@ -278,7 +278,7 @@ fn part<'v, T: Told>(
     optional(alloc, &spot.field(name))
 }
 
-/// That an object stands at a place whose members have these names, but for those that are `null`.
+/// That an object stands at a path whose members have these names, but for those that are `null`.
 #[tactic(auto, unfolding(crate::specs::Values::are_named_at))]
 fn expect_members<'v>(
     spot: &Spot<'v>,

@@ -17,7 +17,7 @@ use papergrid_config::Setting;
 use papergrid_values::{ANSIBuf, Indent, Offset, Position};
 use std::alloc::Global;
 
-/// The setting that stands at a place, with this number among them.
+/// The setting that stands at a path, with this number among them.
 #[tactic(auto, unfolding(crate::specs::Settings::setting_at))]
 pub fn setting<'v>(alloc: Global, index: usize, spot: &Spot<'v>) -> Result<Setting, Fault<'v>>
     ensures { IsReading (setting_at (found spot.now)) result }

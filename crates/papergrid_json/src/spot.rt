@@ -1,4 +1,4 @@
-//! What stands at a place of a document, and the plain values there.
+//! What stands at a path of a document, and the plain values there.
 
 ghost use Rattle.std.specs.Prelude.{◌≡◌, option_and_then, option_map};
 ghost use Rattle.serde_json.specs.Find.{as_array, as_object, as_str, at, get};
@@ -8,16 +8,16 @@ ghost use Rattle.papergrid_json.specs.Spots.{character_at, count_at, flag_at, is
 ghost use Rattle.papergrid_json.specs.declared.error.Fault.TheVariants.{Unexpected};
 
 use crate::error::Fault;
-use crate::place::Place;
+use crate::path::DocumentPath;
 use papergrid_text::string::single_character;
 use serde_json::{Map, Value};
 use std::alloc::Global;
 
-/// What stands at a place, if something does.
+/// What stands at a path, if something does.
 #[derive(Clone, Copy)]
 pub struct Spot<'v> {
     pub value: Option<&'v Value>,
-    pub place: Place,
+    pub path: DocumentPath,
 }
 
 impl<'v> Spot<'v> {
@@ -27,7 +27,7 @@ impl<'v> Spot<'v> {
     {
         Spot {
             value: document.get(name),
-            place: Place::of(name),
+            path: DocumentPath::of(name),
         }
     }
 
@@ -40,7 +40,7 @@ impl<'v> Spot<'v> {
                 Some(value) => value.get(index),
                 None => None,
             },
-            place: self.place.at(index),
+            path: self.path.at(index),
         }
     }
 
@@ -53,7 +53,7 @@ impl<'v> Spot<'v> {
                 Some(value) => value.get(name),
                 None => None,
             },
-            place: self.place.field(name),
+            path: self.path.field(name),
         }
     }
 
@@ -122,9 +122,9 @@ impl<'v> Spot<'v> {
 
     /// That something else is wanted here.
     pub fn unexpected(&self, wanted: &'static str) -> Fault<'v>
-        ensures { result ≡ Unexpected self.now.place wanted.entry }
+        ensures { result ≡ Unexpected self.now.path wanted.entry }
     {
-        Fault::Unexpected(self.place, wanted)
+        Fault::Unexpected(self.path, wanted)
     }
 
     /// The number that stands here.

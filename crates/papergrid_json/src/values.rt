@@ -14,12 +14,12 @@ use papergrid_values::{
 };
 use std::alloc::Global;
 
-/// A value that a document tells.
+/// A value that a document describes.
 pub trait Told: Drop {
-    /// The value that what stands at a place tells.
+    /// The value that what stands at a path tells.
     ghost told_at: { Option Data → Option Self };
 
-    /// The value that stands at a place.
+    /// The value that stands at a path.
     fn told<'v>(alloc: Global, spot: &Spot<'v>) -> Result<Self, Fault<'v>>
         ensures { IsReading (told_at (found spot.now)) result };
 }
@@ -91,7 +91,7 @@ pub fn color_of<'v>(
     }
 }
 
-/// The value that stands at a place, none where nothing does.
+/// The value that stands at a path, none where nothing does.
 #[tactic(auto, unfolding(crate::specs::Spots::optional))]
 pub fn optional<'v, T: Told>(alloc: Global, spot: &Spot<'v>) -> Result<Option<T>, Fault<'v>>
     ensures { IsReading (optional T.Told.told_at (found spot.now)) result }
@@ -102,7 +102,7 @@ pub fn optional<'v, T: Told>(alloc: Global, spot: &Spot<'v>) -> Result<Option<T>
     Ok(Some(<T as Told>::told(alloc, spot)?))
 }
 
-/// The entity that stands at a place.
+/// The entity that stands at a path.
 #[tactic(auto, unfolding(crate::specs::Values::entity_at))]
 pub fn entity<'v>(spot: &Spot<'v>) -> Result<Entity, Fault<'v>>
     ensures { IsReading (entity_at (found spot.now)) result }
@@ -118,7 +118,7 @@ pub fn entity<'v>(spot: &Spot<'v>) -> Result<Entity, Fault<'v>>
     }
 }
 
-/// The position that stands at a place.
+/// The position that stands at a path.
 #[tactic(auto, unfolding(crate::specs::Values::position_at))]
 pub fn position<'v>(spot: &Spot<'v>) -> Result<Position, Fault<'v>>
     ensures { IsReading (position_at (found spot.now)) result }
@@ -127,7 +127,7 @@ pub fn position<'v>(spot: &Spot<'v>) -> Result<Position, Fault<'v>>
     Ok(Position::new(row, column))
 }
 
-/// The horizontal alignment that stands at a place.
+/// The horizontal alignment that stands at a path.
 #[tactic(auto, unfolding(crate::specs::Values::horizontal_at))]
 pub fn horizontal<'v>(spot: &Spot<'v>) -> Result<AlignmentHorizontal, Fault<'v>>
     ensures { IsReading (horizontal_at (found spot.now)) result }
@@ -140,7 +140,7 @@ pub fn horizontal<'v>(spot: &Spot<'v>) -> Result<AlignmentHorizontal, Fault<'v>>
     }
 }
 
-/// The vertical alignment that stands at a place.
+/// The vertical alignment that stands at a path.
 #[tactic(auto, unfolding(crate::specs::Values::vertical_at))]
 pub fn vertical<'v>(spot: &Spot<'v>) -> Result<AlignmentVertical, Fault<'v>>
     ensures { IsReading (vertical_at (found spot.now)) result }

@@ -10,8 +10,8 @@ use Rattle.papergrid_values.specs.declared.direction.Direction.{Direction}
 use Rattle.papergrid_tracks.specs.Answers.{IsAccepted}
 use Rattle.papergrid_tracks.specs.Fits.{Fits, IsLeast}
 use Rattle.papergrid_tracks.specs.Problem.{Problem}
-use Rattle.papergrid_tracks.specs.Ranges.{demand_of, place_of}
-use Rattle.papergrid_tracks.proofs.AcceptLemmas.{few_places}
+use Rattle.papergrid_tracks.specs.Ranges.{demand_of, position_of}
+use Rattle.papergrid_tracks.proofs.AcceptLemmas.{few_positions}
 use Rattle.papergrid_tracks.proofs.CandidateLemmas.{count_by-none, is_same}
 use Rattle.papergrid_walk.specs.Cells.{demand_by, demands_by, demands_of, positioned_cells, problem_of, side, visible_of}
 use Rattle.papergrid_maps.specs.Grids.{Grid}
@@ -45,59 +45,59 @@ module _ (grid : Grid) (candidate : Candidate) where
     ]
 
 -- what is found of a table with as many tracks as sizes holds of the table itself, since the sizes are as many
-pub checked-of : (problem : ℕ → Problem) (sizes : List ℕ) (places : List Position) (answer : Bool) (count : ℕ) → ((n : ℕ) → (problem n).count ≡ count) →
-    IsTrue answer ↔ IsAccepted (problem (length sizes)) sizes places → (IsTrue answer → IsLeast (problem (length sizes)) sizes) → IsChecked (problem count) sizes places answer
-checked-of problem sizes places answer count counts exact least =
+pub checked-of : (problem : ℕ → Problem) (sizes : List ℕ) (positions : List Position) (answer : Bool) (count : ℕ) → ((n : ℕ) → (problem n).count ≡ count) →
+    IsTrue answer ↔ IsAccepted (problem (length sizes)) sizes positions → (IsTrue answer → IsLeast (problem (length sizes)) sizes) → IsChecked (problem count) sizes positions answer
+checked-of problem sizes positions answer count counts exact least =
     let many : (n : ℕ) → Fits (problem n) sizes → length sizes ≡ count = λ n fits. fits.one_each ∙ counts n in
     record {
       exact = (
-        λ t. let accepted = exact.0 t in subst (λ n. IsAccepted (problem n) sizes places) (many (length sizes) accepted.fits) accepted,
-        λ accepted. exact.1 (subst (λ n. IsAccepted (problem n) sizes places) (sym (many count accepted.fits)) accepted),
+        λ t. let accepted = exact.0 t in subst (λ n. IsAccepted (problem n) sizes positions) (many (length sizes) accepted.fits) accepted,
+        λ accepted. exact.1 (subst (λ n. IsAccepted (problem n) sizes positions) (sym (many count accepted.fits)) accepted),
       );
       least = λ t. let is = least t in subst (λ n. IsLeast (problem n) sizes) (many (length sizes) is.fits) is;
     }
 
--- the places of a certificate are those of visible cells
-shown_places : {C : Type 0} (grid : Grid) (measure : C → ℕ × ℕ) (columns : ℕ) (cells : List (List C)) (direction : Direction) (sizes : List ℕ) (places : List Position) →
-    IsAccepted (problem_of grid measure columns cells direction) sizes places → AreShown grid places
-shown_places grid measure columns cells direction sizes places accepted =
+-- the positions of a certificate are those of visible cells
+shown_places : {C : Type 0} (grid : Grid) (measure : C → ℕ × ℕ) (columns : ℕ) (cells : List (List C)) (direction : Direction) (sizes : List ℕ) (positions : List Position) →
+    IsAccepted (problem_of grid measure columns cells direction) sizes positions → AreShown grid positions
+shown_places grid measure columns cells direction sizes positions accepted =
     let demands = demands_of direction grid measure cells in
-    let visible : All (λ d. IsTrue (grid.shows (place_of d))) demands =
-    All-map (λ d. IsTrue (grid.shows (place_of d))) (demand_by direction grid measure) (visible_of grid (positioned_cells cells)) (filter_passes (λ cell. grid.shows cell.0) (positioned_cells cells)) in
-    subst (AreShown grid) accepted.at_places
-    (All-map (λ p. IsTrue (grid.shows p)) place_of accepted.cells
-    (All-weaker (Contains demands) (λ d. IsTrue (grid.shows (place_of d))) (λ d m. All-contains (λ d. IsTrue (grid.shows (place_of d))) demands d visible m) accepted.cells accepted.certificate.visible))
+    let visible : All (λ d. IsTrue (grid.shows (position_of d))) demands =
+    All-map (λ d. IsTrue (grid.shows (position_of d))) (demand_by direction grid measure) (visible_of grid (positioned_cells cells)) (filter_passes (λ cell. grid.shows cell.0) (positioned_cells cells)) in
+    subst (AreShown grid) accepted.at_positions
+    (All-map (λ p. IsTrue (grid.shows p)) position_of accepted.cells
+    (All-weaker (Contains demands) (λ d. IsTrue (grid.shows (position_of d))) (λ d m. All-contains (λ d. IsTrue (grid.shows (position_of d))) demands d visible m) accepted.cells accepted.certificate.visible))
 
 -- a list that is longer than the sizes, or has a hidden cell, is never that of a certificate
-pub refused-of : {C : Type 0} (grid : Grid) (measure : C → ℕ × ℕ) (columns : ℕ) (cells : List (List C)) (direction : Direction) (sizes : List ℕ) (places : List Position) →
-    All (λ d. 1 ≤ d.span) (demands_of direction grid measure cells) → (length sizes < length places) ⊎ (AreShown grid places → ⊥) →
-    IsChecked (problem_of grid measure columns cells direction) sizes places false
-refused-of grid measure columns cells direction sizes places spans reason =
+pub refused-of : {C : Type 0} (grid : Grid) (measure : C → ℕ × ℕ) (columns : ℕ) (cells : List (List C)) (direction : Direction) (sizes : List ℕ) (positions : List Position) →
+    All (λ d. 1 ≤ d.span) (demands_of direction grid measure cells) → (length sizes < length positions) ⊎ (AreShown grid positions → ⊥) →
+    IsChecked (problem_of grid measure columns cells direction) sizes positions false
+refused-of grid measure columns cells direction sizes positions spans reason =
     let problem = problem_of grid measure columns cells direction in
     record {
       exact = (
         λ t. absurd (false≢true t),
         λ accepted. elim reason [
           | inl long ↦
-              let few : length places ≤ problem.count = few_places problem.line problem.count problem.demands sizes places spans accepted in
+              let few : length positions ≤ problem.count = few_positions problem.line problem.count problem.demands sizes positions spans accepted in
               let many : length sizes ≡ problem.count = accepted.fits.one_each in
               absurd (omega (arith, few, many, long))
-          | inr hidden ↦ absurd (hidden (shown_places grid measure columns cells direction sizes places accepted))
+          | inr hidden ↦ absurd (hidden (shown_places grid measure columns cells direction sizes positions accepted))
         ],
       );
       least = λ t. absurd (false≢true t);
     }
 
--- a place that is listed is one of the places
-pub listed_shown : (grid : Grid) (places : List Position) (place : Position) → AreShown grid places → 0 < count_by (λ p. place.row == p.row && place.col == p.col) places → grid.shows place ≡ true
-listed_shown grid places place shown listed = elim (cases_Bool (grid.shows place)) [
+-- a position that is listed is one of the positions
+pub listed_shown : (grid : Grid) (positions : List Position) (position : Position) → AreShown grid positions → 0 < count_by (λ p. position.row == p.row && position.col == p.col) positions → grid.shows position ≡ true
+listed_shown grid positions position shown listed = elim (cases_Bool (grid.shows position)) [
   | inl t ↦ t
   | inr f ↦
-      let other : (k : ℕ) (p : Position) → k < length places → is_same place (get_or places k p) ≡ false = λ k p l. elim (cases_Bool (is_same place (get_or places k p))) [
-        | inl same ↦ absurd (true≢false (sym (subst (λ q. grid.shows q ≡ true) (sym (same_place place (get_or places k p) same)) (shown k p l)) ∙ f))
+      let other : (k : ℕ) (p : Position) → k < length positions → is_same position (get_or positions k p) ≡ false = λ k p l. elim (cases_Bool (is_same position (get_or positions k p))) [
+        | inl same ↦ absurd (true≢false (sym (subst (λ q. grid.shows q ≡ true) (sym (same_place position (get_or positions k p) same)) (shown k p l)) ∙ f))
         | inr apart ↦ apart
       ] in
-      let none : count_by (is_same place) places ≡ 0 = count_by-none (is_same place) places other in
+      let none : count_by (is_same position) positions ≡ 0 = count_by-none (is_same position) positions other in
       absurd (omega (arith, none, listed))
 ]
   where

@@ -21,7 +21,7 @@ accepted problem sizes places are critical_path_is = record {
   none_out = are.none_out;
   fits = are.least.fits;
   cells = critical_path_is.cells;
-  at_places = sym critical_path_is.exact;
+  at_positions = sym critical_path_is.exact;
   certificate = critical_path_is.certificate sizes are.least;
 }
 

@@ -14,7 +14,7 @@ use Rattle.papergrid_tracks.specs.declared.demand.Demand.{Demand}
 use Rattle.papergrid_tracks.specs.Sizings.{IsTotal, AreSizesBy}
 use Rattle.papergrid_tracks.specs.Fits.{HasRoom, range_sum}
 use Rattle.papergrid_tracks.specs.Problem.{Problem, total_of}
-use Rattle.papergrid_tracks.specs.Ranges.{end_of, first_out, inner_lines, place_of}
+use Rattle.papergrid_tracks.specs.Ranges.{end_of, first_out, inner_lines, position_of}
 use Rattle.papergrid_tracks.proofs.OutLemmas.{if_none}
 use Rattle.papergrid_maps.proofs.HiddenLemmas.{position-same}
 use Rattle.papergrid_tracks.proofs.LeastLemmas.{exact-least}
@@ -200,7 +200,7 @@ module _ {C : Type 0} (grid : Grid) (measure : C → ℕ × ℕ) (columns : ℕ)
   good direction (x ∷ xs) none room =
       let d = demand_by direction grid measure x in
       let ds = map (demand_by direction grid measure) xs in
-      let inside = if_none (nat_lt (problem direction).count (end_of d)) (place_of d) (first_out (problem direction).count ds) none in
+      let inside = if_none (nat_lt (problem direction).count (end_of d)) (position_of d) (first_out (problem direction).count ds) none in
       let ends : end_of d ≤ (problem direction).count = ltb-false (problem direction).count (end_of d) inside.0 in
       let many : length (size direction) ≡ (problem direction).count = (sized direction).fits.one_each in
       All-cons (IsGood direction) x xs

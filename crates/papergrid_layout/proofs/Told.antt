@@ -9,7 +9,7 @@ use Rattle.papergrid_values.specs.declared.direction.Direction.TheVariants.{Colu
 use Rattle.papergrid_tracks.specs.Laminar.{is_laminar}
 use Rattle.papergrid_tracks.specs.Problem.{Problem, problem_of_demands}
 use Rattle.papergrid_tracks.proofs.LaminarLemmas.{Decides-is_laminar, not_laminar}
-use Rattle.papergrid_tracks.specs.Ranges.{place_of}
+use Rattle.papergrid_tracks.specs.Ranges.{position_of}
 use Rattle.papergrid_walk.specs.Cells.{demand_by, demands_by, count_along, demands_of, placed_from, placed_row, problem_of, visible_cells}
 use Rattle.papergrid_maps.specs.Grids.{Grid}
 use Rattle.papergrid_walk.specs.ForProofs.Visits.{demands_by-append}
@@ -32,13 +32,13 @@ certificate_is problem (Some places) chosen =
     rw t (ap Some chosen.exact)
 
 module _ {C : Type 0} (grid : Grid) (measure : C → ℕ × ℕ) (columns : ℕ) (cells : List (List C)) where
-  places_among : (xs : List (Position × C)) → map (λ x. x.0) xs ≡ map place_of (map (demand_by Columns grid measure) xs)
-  places_among [] = refl
-  places_among (x ∷ xs) = ap (λ ps. x.0 ∷ ps) (places_among xs)
+  positions_among : (xs : List (Position × C)) → map (λ x. x.0) xs ≡ map position_of (map (demand_by Columns grid measure) xs)
+  positions_among [] = refl
+  positions_among (x ∷ xs) = ap (λ ps. x.0 ∷ ps) (positions_among xs)
 
   -- the first cell out of the table, by what the cells ask for alone
-  first_by_demands : first_out_of_table grid measure columns cells ≡ find (overflows grid measure columns cells) (map place_of (demands_of Columns grid measure cells))
-  first_by_demands = ap (find (overflows grid measure columns cells)) (places_among (visible_cells grid cells))
+  first_by_demands : first_out_of_table grid measure columns cells ≡ find (overflows grid measure columns cells) (map position_of (demands_of Columns grid measure cells))
+  first_by_demands = ap (find (overflows grid measure columns cells)) (positions_among (visible_cells grid cells))
 
 module _ {A B : Type 0} (grid : Grid) (v : A → B) (f : B → ℕ × ℕ) where
   told_row : (direction : Direction) (r c : ℕ) (cells : List A) → demands_by direction grid (λ x. f (v x)) (placed_row r c cells) ≡ demands_by direction grid f (placed_row r c (map v cells))
@@ -75,7 +75,7 @@ module _ {A B : Type 0} (grid : Grid) (v : A → B) (f : B → ℕ × ℕ) where
     first_told columns =
         let wide = demands_told Columns in
         first_by_demands grid (λ x. f (v x)) columns cells
-        ∙ (λ i. find (λ p. nat_lt columns (p.col + grid.span Columns p) || nat_lt (as_many i) (p.row + grid.span Rows p)) (map place_of (wide i)))
+        ∙ (λ i. find (λ p. nat_lt columns (p.col + grid.span Columns p) || nat_lt (as_many i) (p.row + grid.span Rows p)) (map position_of (wide i)))
         ∙ sym (first_by_demands grid f columns rows)
 
     -- so along both directions the same holds of what is found

@@ -8,7 +8,7 @@ use Rattle.papergrid_values.specs.declared.direction.Direction.{Direction}
 use Rattle.papergrid_tracks.specs.Fits.{Fits, HasRoom}
 use Rattle.papergrid_tracks.specs.Problem.{Problem, total_of}
 use Rattle.papergrid_values.specs.Lines.{all_lines}
-use Rattle.papergrid_tracks.specs.Ranges.{end_of, first_out, place_of}
+use Rattle.papergrid_tracks.specs.Ranges.{end_of, first_out, position_of}
 use Rattle.papergrid_tracks.proofs.LoopLemmas.{minimum_within_total}
 use Rattle.papergrid_tracks.proofs.OutLemmas.{if_none}
 use Rattle.papergrid_tracks.specs.Sizings.{AreSizesBy, IsTotal}
@@ -37,7 +37,7 @@ module _ {C : Type 0} (grid : Grid) (measure : C → ℕ × ℕ) (columns : ℕ)
   each_within sizes total le (x ∷ xs) none room =
       let d = demand_by direction grid measure x in
       let ds = map (demand_by direction grid measure) xs in
-      let inside = if_none (nat_lt problem.count (end_of d)) (place_of d) (first_out problem.count ds) none in
+      let inside = if_none (nat_lt problem.count (end_of d)) (position_of d) (first_out problem.count ds) none in
       let ends : end_of d ≤ problem.count = ltb-false problem.count (end_of d) inside.0 in
       let minimum : d.minimum ≤ sum sizes + all_lines problem.line problem.count = minimum_within_total problem.line problem.count sizes d ends (All-head (HasRoom problem.line sizes) d ds room) in
       All-cons (MinimumsAtMost total) x xs (omega arith) (each_within sizes total le xs inside.1 (All-tail (HasRoom problem.line sizes) d ds room))

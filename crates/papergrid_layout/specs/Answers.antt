@@ -1,4 +1,4 @@
--- What the answers say of the rows told.
+-- What the answers say of the rows yielded.
 use Rattle.std.specs.Prelude.{◌≡◌, ◌⊎◌, ℕ, ◌+◌, ◌||◌, Bool, List, length, map, find, nat_lt, Option, None, Some, Result, Ok, Err, MatchResult, Vec, ⊤}
 use Rattle.papergrid_values.specs.declared.per_direction.PerDirection.{PerDirection}
 use Rattle.papergrid_values.specs.declared.position.Position.{Position}

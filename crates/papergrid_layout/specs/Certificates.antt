@@ -1,4 +1,4 @@
--- What certificates and checkers say of the rows told.
+-- What certificates and checkers say of the rows yielded.
 use Rattle.std.specs.Prelude.{◌≡◌, ◌↔◌, ℕ, Bool, IsTrue, if◌then◌else◌, List, map, Option, Some, None, Result, Vec}
 use Rattle.papergrid_values.specs.declared.position.Position.{Position}
 use Rattle.papergrid_values.specs.declared.per_direction.PerDirection.{PerDirection}
@@ -9,26 +9,26 @@ use Rattle.papergrid_tracks.specs.Certificates.{certificate_cells_of}
 use Rattle.papergrid_tracks.specs.Fits.{IsLeast}
 use Rattle.papergrid_tracks.specs.Laminar.{is_laminar}
 use Rattle.papergrid_tracks.specs.Problem.{Problem, total_of}
-use Rattle.papergrid_tracks.specs.Ranges.{place_of}
+use Rattle.papergrid_tracks.specs.Ranges.{position_of}
 use Rattle.papergrid_tracks.specs.LeastAnswers.{AreCriticalPath}
 use Rattle.papergrid_maps.specs.Grids.{Grid}
 use Rattle.papergrid_layout.specs.Answers.{HoldAlong}
-use Rattle.papergrid_tracks.specs.Sizings.{Answers, AreSizesBy, IsCertificateBy, places_of}
+use Rattle.papergrid_tracks.specs.Sizings.{Answers, AreSizesBy, IsCertificateBy, positions_of}
 use Rattle.papergrid_tracks.specs.declared.sizing.Sizing.{Sizing}
 use Rattle.papergrid_tracks.specs.declared.sizing.Sizing.TheVariants.{Least}
 
 -- whether these sizes, with these positions of cells that certify them, are accepted; those that are, are least
-pub record IsChecked (problem : Problem) (sizes : List ℕ) (places : List Position) (answer : Bool) : Type 0 where
-  pub exact : IsTrue answer ↔ IsAccepted problem sizes places
+pub record IsChecked (problem : Problem) (sizes : List ℕ) (positions : List Position) (answer : Bool) : Type 0 where
+  pub exact : IsTrue answer ↔ IsAccepted problem sizes positions
   pub least : IsTrue answer → IsLeast problem sizes
 
 -- the positions of the cells that certify the sizes by shares, none where two longer ranges are neither nested nor disjoint
 abbrev pub certificate_by_shares : Problem → Option (List Position)
-certificate_by_shares problem = if is_laminar problem.demands then Some (map place_of (certificate_cells_of problem)) else None
+certificate_by_shares problem = if is_laminar problem.demands then Some (map position_of (certificate_cells_of problem)) else None
 
 -- the positions of the cells that certify least sizes, or why there are none
 abbrev pub IsLeastCertified : {Z : Type 0} → Problem → Result (Vec Position Z) LayoutError → Type 0
-IsLeastCertified {Z} problem result = Answers Least (λ p (places : Vec Position Z). AreCriticalPath p places.items) problem result
+IsLeastCertified {Z} problem result = Answers Least (λ p (positions : Vec Position Z). AreCriticalPath p positions.items) problem result
 
 -- what is found along a direction: the sizes, their total with all lines, and the positions of the cells that certify
 -- them, if there are such
@@ -39,7 +39,7 @@ pub record Solution : Type 0 where
 
 -- what a solver has found
 abbrev pub solution_of : Solved → Solution
-solution_of solved = record { sizes = solved.sizes.items; total = solved.total; certificate = places_of solved.certificate }
+solution_of solved = record { sizes = solved.sizes.items; total = solved.total; certificate = positions_of solved.certificate }
 
 -- the same along both directions
 abbrev pub solutions_of : PerDirection Solved → PerDirection Solution

@@ -32,7 +32,7 @@ RowHasCell cells col cell = (col < length cells) × (slice_index_or cells col ce
 abbrev pub IsCellAt : {C : Type 0} → List (List C) → Position → C → Type 0
 IsCellAt rows p cell = (p.row < length rows) × RowHasCell (slice_index_or rows p.row []) p.col cell
 
--- the sizes along a direction, of so many tracks, that told rows have
+-- the sizes along a direction, of so many tracks, for rows that records yield
 abbrev pub sizes_told : {C : Type 0} → Direction → Grid → (C → ℕ × ℕ) → ℕ → List (List C) → List ℕ
 sizes_told direction grid measure n rows = sizes_of (problem_with grid measure direction n rows)
 

@@ -28,7 +28,7 @@ use std::convert::AsStr;
 /// inside of them add up to the widths. None where two longer column ranges are neither nested nor
 /// disjoint.
 ///
-/// Condition: the records are lawful: they tell one finite list of rows, as each vector of
+/// Condition: the records are lawful: they yield one finite list of rows, as each vector of
 /// rows does.
 ///
 /// # Errors
@@ -53,7 +53,7 @@ where
 /// The positions of the cells that certify that the heights of the records' rows are least, as
 /// `width_witness` for columns. None where two longer row ranges are neither nested nor disjoint.
 ///
-/// Condition: the records are lawful: they tell one finite list of rows, as each vector of
+/// Condition: the records are lawful: they yield one finite list of rows, as each vector of
 /// rows does.
 ///
 /// # Errors
@@ -99,7 +99,7 @@ where
 /// of disjoint ranges, whose minimum sizes less the lines inside of them add up to the widths. Then
 /// no widths that fit have a smaller total, whoever made the list. It does not allocate.
 ///
-/// Condition: the records are lawful: they tell one finite list of rows, as each vector of
+/// Condition: the records are lawful: they yield one finite list of rows, as each vector of
 /// rows does.
 pub fn check_width_witness<R: Records + Drop>(
     records: R,
@@ -122,7 +122,7 @@ where
 /// disjoint ranges, whose minimum sizes less the lines inside of them add up to the heights. Then
 /// no heights that fit have a smaller total, whoever made the list. It does not allocate.
 ///
-/// Condition: the records are lawful: they tell one finite list of rows, as each vector of
+/// Condition: the records are lawful: they yield one finite list of rows, as each vector of
 /// rows does.
 pub fn check_height_witness<R: Records + Drop>(
     records: R,
@@ -144,7 +144,7 @@ where
 /// the starts of their ranges: visible cells of disjoint ranges, whose minimum sizes less the lines
 /// inside of them add up to the widths. There always are such cells.
 ///
-/// Condition: the records are lawful: they tell one finite list of rows, as each vector of
+/// Condition: the records are lawful: they yield one finite list of rows, as each vector of
 /// rows does.
 ///
 /// # Errors
@@ -168,7 +168,7 @@ where
 /// The positions of the cells that certify that the heights of the records' rows are least, as
 /// `width_certificate` for columns.
 ///
-/// Condition: the records are lawful: they tell one finite list of rows, as each vector of
+/// Condition: the records are lawful: they yield one finite list of rows, as each vector of
 /// rows does.
 ///
 /// # Errors
@@ -208,7 +208,7 @@ where
     )?;
     let certificate = found.certificate;
     match certificate {
-        Some(places) => Ok(places),
+        Some(positions) => Ok(positions),
         None => unreachable!("least sizes have a certificate"),
     }
 }
@@ -219,7 +219,7 @@ where
 /// ranges are neither nested nor disjoint. The least ones are those of `LeastGridDimension`, with the cells of
 /// `width_certificate` and `height_certificate`.
 ///
-/// Condition: the records are lawful: they tell one finite list of rows, as each vector of
+/// Condition: the records are lawful: they yield one finite list of rows, as each vector of
 /// rows does.
 ///
 /// # Errors

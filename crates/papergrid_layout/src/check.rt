@@ -58,11 +58,11 @@ fn check_cell<M: Measure<C>, C, S: ConfigView>(
     position: Position,
     cell: &C,
 ) -> Checked
-    requires bounded { AreBounded candidate.now.places.now checked }
+    requires bounded { AreBounded candidate.now.positions.now checked }
     requires ordered { IsCandidate ((S.grid settings.now).span candidate.now.direction)
         candidate.now }
     requires shown { IsShownCandidate (S.grid settings.now) candidate.now }
-    ensures bounded { AreBounded candidate.now.places.now result }
+    ensures bounded { AreBounded candidate.now.positions.now result }
     ensures checks { let grid = S.grid settings.now in
         ChecksMore grid candidate.now checked result
         (demands_by candidate.now.direction grid M.measured ((position, cell.now) ∷ [])) }
@@ -95,7 +95,7 @@ struct Checker<'a, M, S> {
 }
 
 impl<'a, M: Measure<C>, C, S: ConfigView> Visitor<C> for Checker<'a, M, S> {
-    ghost ready = { λ v row column. AreBounded v.candidate.now.places.now v.checked
+    ghost ready = { λ v row column. AreBounded v.candidate.now.positions.now v.checked
         × IsCandidate ((S.grid v.settings.now).span v.candidate.now.direction) v.candidate.now
         × IsShownCandidate (S.grid v.settings.now) v.candidate.now };
 
@@ -141,7 +141,7 @@ where
     requires ordered { IsCandidate ((S.grid settings.now).span candidate.now.direction)
         candidate.now }
     requires shown { IsShownCandidate (S.grid settings.now) candidate.now }
-    ensures bounded { AreBounded candidate.now.places.now result.0 }
+    ensures bounded { AreBounded candidate.now.positions.now result.0 }
     ensures checks { let grid = S.grid settings.now in
         TellsRows R.tells records (λ cells.
         ChecksBy grid candidate.now result.0
@@ -176,7 +176,7 @@ where
     ensures { TellsRows R.tells records (λ cells.
         IsChecked (problem_of (S.grid settings.now) M.measured
         (R.columns records) cells candidate.now.direction) candidate.now.sizes.now
-        candidate.now.places.now result) }
+        candidate.now.positions.now result) }
 {
     let columns = records.count_columns();
     let axis = Along {
@@ -196,22 +196,22 @@ fn refuse<M, R: Records + Drop, S: ConfigView>(
     settings: &S,
     direction: Direction,
     sizes: &[usize],
-    places: &[Position],
+    positions: &[Position],
 ) -> bool
 where
     M: Measure<<<R as Records>::Iter as IntoRecords>::Cell>,
     <<R as Records>::Iter as IntoRecords>::Cell: Drop,
     requires lawful { R.is_lawful records }
-    requires reason { (length sizes.now < length places.now)
-        ⊎ (AreShown (S.grid settings.now) places.now → ⊥) }
+    requires reason { (length sizes.now < length positions.now)
+        ⊎ (AreShown (S.grid settings.now) positions.now → ⊥) }
     ensures { TellsRows R.tells records (λ cells.
         IsChecked (problem_of (S.grid settings.now) M.measured
-        (R.columns records) cells direction) sizes.now places.now result) }
+        (R.columns records) cells direction) sizes.now positions.now result) }
 {
     let candidate = Candidate {
         direction,
         sizes,
-        places: &places[..0],
+        positions: &positions[..0],
         is_ordered: false,
         ends_within: false,
     };
@@ -228,7 +228,7 @@ pub fn check<M, R: Records + Drop, S: ConfigView>(
     settings: &S,
     direction: Direction,
     sizes: &[usize],
-    places: &[Position],
+    positions: &[Position],
 ) -> bool
 where
     M: Measure<<<R as Records>::Iter as IntoRecords>::Cell>,
@@ -236,24 +236,24 @@ where
     requires { R.is_lawful records }
     ensures { TellsRows R.tells records (λ cells.
         IsChecked (problem_of (S.grid settings.now) M.measured
-        (R.columns records) cells direction) sizes.now places.now result) }
+        (R.columns records) cells direction) sizes.now positions.now result) }
 {
-    if places.len() > sizes.len() {
-        return refuse::<M, R, S>(records, settings, direction, sizes, places);
+    if positions.len() > sizes.len() {
+        return refuse::<M, R, S>(records, settings, direction, sizes, positions);
     }
     let axis = Along {
         settings,
         direction,
         count: sizes.len(),
     };
-    let is_ordered = are_in_order(direction, &axis, places);
-    if is_ordered && !settings.are_visible(direction, places) {
-        return refuse::<M, R, S>(records, settings, direction, sizes, places);
+    let is_ordered = are_in_order(direction, &axis, positions);
+    if is_ordered && !settings.are_visible(direction, positions) {
+        return refuse::<M, R, S>(records, settings, direction, sizes, positions);
     }
     let candidate = Candidate {
         direction,
         sizes,
-        places,
+        positions,
         is_ordered,
         ends_within: settings.spans_end_within(direction, sizes.len()),
     };

@@ -43,7 +43,7 @@ impl CompactGridDimension {
 
     /// The widths of the columns of the records, in columns of a terminal.
     ///
-    /// Condition: the records are lawful: they tell one finite list of rows, as each vector of
+    /// Condition: the records are lawful: they yield one finite list of rows, as each vector of
     /// rows does.
     ///
     /// # Errors
@@ -68,7 +68,7 @@ impl CompactGridDimension {
 
     /// The heights of the rows of the records, in lines.
     ///
-    /// Condition: the records are lawful: they tell one finite list of rows, as each vector of
+    /// Condition: the records are lawful: they yield one finite list of rows, as each vector of
     /// rows does.
     ///
     /// # Errors
@@ -94,7 +94,7 @@ impl CompactGridDimension {
     /// The widths of the columns of the records, in columns of a terminal, and the heights of their
     /// rows, in lines.
     ///
-    /// Condition: the records are lawful: they tell one finite list of rows, as each vector of
+    /// Condition: the records are lawful: they yield one finite list of rows, as each vector of
     /// rows does.
     ///
     /// # Errors

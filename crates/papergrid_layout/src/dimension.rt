@@ -60,7 +60,7 @@ pub trait Estimate<R, C> {
 
     /// Takes the sizes of the records.
     ///
-    /// Condition: the records are lawful: they tell one finite list of rows, as each vector of
+    /// Condition: the records are lawful: they yield one finite list of rows, as each vector of
     /// rows does.
     ///
     /// # Errors

@@ -22,7 +22,7 @@ use std::marker::PhantomData;
 
 /// Widths of columns and heights of rows, which `T` finds of cells that `M` measures.
 ///
-/// The records of each call are lawful: they tell one finite list of rows, as each vector of rows does.
+/// The records of each call are lawful: they yield one finite list of rows, as each vector of rows does.
 #[derive(Clone, Debug, PartialEq, Drop)]
 pub struct GridDimension<T, M> {
     alloc: Global,

@@ -49,7 +49,7 @@ pub fn equal_text_measures<S: AsStr>()
 {}
 
 /// The cells with their positions are those that the rows have there, by row and then by column.
-pub fn cells_by_place<C>()
+pub fn cells_by_position<C>()
     ensures cells { (rows : List (List C)) (p : Position) (cell : C) →
         Contains (positioned_cells rows) (p, cell) ↔ IsCellAt rows p cell }
     ensures order { (rows : List (List C)) →
@@ -57,7 +57,7 @@ pub fn cells_by_place<C>()
 {}
 
 /// Sizes do not depend on the order in which spans of different cells were set, side by side or
-/// anywhere in a list, since what is read of a configuration depends only on what the settings tell.
+/// anywhere in a list, since what is read of a configuration depends only on what the settings make.
 pub fn order_of_spans<C>()
     ensures sizes { (settings other : List Setting) → AreSwapped settings other →
         (x y : SpannedConfig) → HasSettingHistory settings x → HasSettingHistory other y →
@@ -129,9 +129,9 @@ pub fn least_as_by_shares<C>()
         AreSizes (problem_of grid measure columns rows direction) sizes →
         AreLeastSizes (problem_of grid measure columns rows direction) least →
         IsLaminar (demands_of direction grid measure rows) → least ≡ sizes }
-    ensures accepted { (problem : Problem) (sizes : List ℕ) (places : List Position) →
-        AreLeastSizes problem sizes → AreCriticalPath problem places →
-        IsAccepted problem sizes places }
+    ensures accepted { (problem : Problem) (sizes : List ℕ) (positions : List Position) →
+        AreLeastSizes problem sizes → AreCriticalPath problem positions →
+        IsAccepted problem sizes positions }
 {}
 
 /// A clone of a dimension, of a screen rectangle or of an error equals it.

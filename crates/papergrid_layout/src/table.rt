@@ -83,7 +83,7 @@ impl<'a> Table<'a> {
     /// The table of the records by a configuration: its widths are in columns of a terminal, its heights in
     /// lines. Takes time that grows with the cells and the spans, and some numbers for each column, row and span.
     ///
-    /// Condition: the records are lawful: they tell one finite list of rows, as each vector of rows does.
+    /// Condition: the records are lawful: they yield one finite list of rows, as each vector of rows does.
     ///
     /// # Errors
     ///

@@ -38,10 +38,10 @@ less-before p q h = elim (cases_lt p.row q.row) [
   | inr level ↦ inr (grind (arith, h, level), grind (arith, h, level))
 ]
 
-at-place : {X : Type 0} (P : X → Type 0) (xs : List X) (k : ℕ) (x : X) → AllByRecursion P xs → slice_get xs k ≡ Some x → P x
-at-place P [] k x all is = absurd (none-some x is)
-at-place P (y ∷ xs) zero x all is = subst P (same_Some y x is) all.0
-at-place P (y ∷ xs) (suc k) x all is = at-place P xs k x all.1 is
+at-index : {X : Type 0} (P : X → Type 0) (xs : List X) (k : ℕ) (x : X) → AllByRecursion P xs → slice_get xs k ≡ Some x → P x
+at-index P [] k x all is = absurd (none-some x is)
+at-index P (y ∷ xs) zero x all is = subst P (same_Some y x is) all.0
+at-index P (y ∷ xs) (suc k) x all is = at-index P xs k x all.1 is
 
 -- what rises is in order
 pub sorted-from_rising : (anchors : List Anchor) → IsRising anchors → IsSorted anchors
@@ -50,14 +50,14 @@ sorted-from_rising [] rising j k a b h e f = absurd (none-some a e)
 sorted-from_rising (x ∷ xs) rising j zero a b h e f = absurd (omega (arith, h))
 sorted-from_rising (x ∷ xs) rising zero (suc k) a b h e f =
     less-before a.position b.position (subst (λ y. position_cmp y.position b.position ≡ Less) (same_Some x a e)
-    (at-place (λ y. position_cmp x.position y.position ≡ Less) xs k b rising.0 f))
+    (at-index (λ y. position_cmp x.position y.position ≡ Less) xs k b rising.0 f))
 sorted-from_rising (x ∷ xs) rising (suc j) (suc k) a b h e f = sorted-from_rising xs rising.1 j k a b (omega (arith, h)) e f
 
-abbrev pub same_place : Anchor → Anchor → Bool
-same_place a b = position_eq a.position b.position
+abbrev pub same_position : Anchor → Anchor → Bool
+same_position a b = position_eq a.position b.position
 
 -- sorted by position, and each position once
-pub rising-dedup : (anchors : List Anchor) → IsSortedByKey (λ a. a.position) position_cmp anchors → IsRising (dedup same_place anchors)
+pub rising-dedup : (anchors : List Anchor) → IsSortedByKey (λ a. a.position) position_cmp anchors → IsRising (dedup same_position anchors)
 rising-dedup anchors sorted =
     IsStrictlySortedBy-dedup (on_total (λ (a : Anchor). a.position) position_total) (λ a b. position_ties a.position b.position) anchors sorted
 
@@ -99,19 +99,19 @@ module _ (at : Position → Anchor) where
     );
   }
 
-  pub at-dedup : (H : Position → Type 0) (xs : List Anchor) → ((p : Position) → (at p).position ≡ p) → AreAt at H xs → AreAt at H (dedup same_place xs)
+  pub at-dedup : (H : Position → Type 0) (xs : List Anchor) → ((p : Position) → (at p).position ≡ p) → AreAt at H xs → AreAt at H (dedup same_position xs)
   at-dedup H xs there are =
-      let made : All (λ a. a ≡ at a.position) (dedup same_place xs) = All-dedup same_place (λ a. a ≡ at a.position) xs are.made in
+      let made : All (λ a. a ≡ at a.position) (dedup same_position xs) = All-dedup same_position (λ a. a ≡ at a.position) xs are.made in
       record {
         made = made;
         has = λ p. (
-          (λ found. (are.has p).0 (Contains-from_dedup same_place xs (at p) found)),
+          (λ found. (are.has p).0 (Contains-from_dedup same_position xs (at p) found)),
           (λ stored.
               let kept = Any-dedup (on_equiv (λ (a : Anchor). a.position) position_equiv) xs (at p) ((are.has p).1 stored) in
               let at_p : p ≡ kept.1.position = sym (there p) ∙ exact_position_eq (at p).position kept.1.position kept.4 in
-              let found : Contains (dedup same_place xs) kept.1 = (kept.0, kept.2, kept.3) in
-              let is : kept.1 ≡ at p = All-contains (λ a. a ≡ at a.position) (dedup same_place xs) kept.1 made found ∙ ap at (sym at_p) in
-              subst (Contains (dedup same_place xs)) is found),
+              let found : Contains (dedup same_position xs) kept.1 = (kept.0, kept.2, kept.3) in
+              let is : kept.1 ≡ at p = All-contains (λ a. a ≡ at a.position) (dedup same_position xs) kept.1 made found ∙ ap at (sym at_p) in
+              subst (Contains (dedup same_position xs)) is found),
         );
       }
 
@@ -237,7 +237,7 @@ module _ (columns rows : DirectedSpans) (by_columns : columns.direction ≡ Colu
   pub joined-at : (xs ys sorted : List Anchor) → rows.direction ≡ Rows →
       AreAt (anchor_along columns.direction (get columns.spans) (get rows.spans)) (λ p. IsSome (get columns.spans p)) xs →
       AreAt (anchor_along rows.direction (get rows.spans) (get columns.spans)) (λ p. IsSome (get rows.spans p)) ys →
-      IsPermutation (xs ++ ys) sorted → AreAt (anchor_at (get columns.spans) (get rows.spans)) IsStored (dedup same_place sorted)
+      IsPermutation (xs ++ ys) sorted → AreAt (anchor_at (get columns.spans) (get rows.spans)) IsStored (dedup same_position sorted)
   joined-at xs ys sorted by_rows first second moved =
       let at = anchor_at (get columns.spans) (get rows.spans) in
       let row_anchors : AreAt at (λ p. IsSome (get rows.spans p)) ys =

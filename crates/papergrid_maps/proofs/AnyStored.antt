@@ -43,16 +43,16 @@ found_at {X = X} shows P xs x left rest all is holds split =
 
 -- ---- values by their keys
 
-place_of_value : {K X : Type 0} (es : List (K × X)) (i : ℕ) (x : X) → i < length (values_of es) → slice_index_or (values_of es) i x ≡ x → (k : K) × (slice_get es i ≡ Some (k, x))
-place_of_value [] i x within is = absurd (omega (arith, within))
-place_of_value (e ∷ es) zero x within is = (e.0, ap (λ v. Some (e.0, v)) is)
-place_of_value (e ∷ es) (suc i) x within is = place_of_value es i x (omega (arith, within)) is
+index_of_value : {K X : Type 0} (es : List (K × X)) (i : ℕ) (x : X) → i < length (values_of es) → slice_index_or (values_of es) i x ≡ x → (k : K) × (slice_get es i ≡ Some (k, x))
+index_of_value [] i x within is = absurd (omega (arith, within))
+index_of_value (e ∷ es) zero x within is = (e.0, ap (λ v. Some (e.0, v)) is)
+index_of_value (e ∷ es) (suc i) x within is = index_of_value es i x (omega (arith, within)) is
 
 module _ {K X : Type 0} {E : K → K → Bool} (laws : IsEquivalence E) (P : X → Type 0) (es : List (K × X)) where
   value_by_key : IsDistinct E (keys_of es) → Any P (values_of es) → (k : K) × (x : X) × (lookup (E k) es ≡ Some x) × P x
   value_by_key distinct any =
-      let place = place_of_value es any.0 any.1 any.2 any.3 in
-      (place.0, any.1, lookup_from_place laws es any.0 place.0 any.1 distinct place.1, any.4)
+      let position = index_of_value es any.0 any.1 any.2 any.3 in
+      (position.0, any.1, lookup_from_place laws es any.0 position.0 any.1 distinct position.1, any.4)
 
 all_values : {K X : Type 0} (P : X → Type 0) (es : List (K × X)) → All P (values_of es) → All (λ e. P e.1) es
 all_values P [] all i d within = absurd (omega (arith, within))

@@ -28,7 +28,7 @@ module _ (d : Direction) (p : Position) where
   no_call : NoneDecides d p []
   no_call k e less = absurd (omega arith)
 
-  -- ---- what the calls decide, from what is said by place
+  -- ---- what the calls decide, from what is said by index
 
   step : (call : SpanCall) (older : List SpanCall) → decides_span d p call ≡ false → span_from d p (call ∷ older) ≡ span_from d p older
   step (SetSpan e q n) older none = ap (λ b. cond b n (span_from d p older)) none
@@ -42,9 +42,9 @@ module _ (d : Direction) (p : Position) where
       ∙ skip after (call ∷ older) (λ k e less. none (suc k) e (omega (arith, less)))
       ∙ step call older (none 0 call (omega arith))
 
-  by_place : (calls before after : List SpanCall) (call : SpanCall) → calls ≡ before ++ call ∷ after → NoneDecides d p after
+  by_index : (calls before after : List SpanCall) (call : SpanCall) → calls ≡ before ++ call ∷ after → NoneDecides d p after
       → effective_span d p calls ≡ span_from d p (call ∷ reverse before)
-  by_place calls before after call is none =
+  by_index calls before after call is none =
       ap (λ cs. span_from d p (reverse cs)) is
       ∙ ap (span_from d p) (reverse-append before (call ∷ after))
       ∙ ap (λ cs. span_from d p (cs ++ reverse before)) (newest_last call after)
@@ -56,13 +56,13 @@ module _ (d : Direction) (p : Position) where
 
   pub IsEffectiveSpan-only : (calls : List SpanCall) (n : ℕ) → IsEffectiveSpan d p calls n → n ≡ effective_span d p calls
   IsEffectiveSpan-only calls _ (BySet n before after big is none) =
-      sym (by_place calls before after (SetSpan d p n) is none ∙ ap (λ b. cond b n (span_from d p (reverse before))) (itself n big))
+      sym (by_index calls before after (SetSpan d p n) is none ∙ ap (λ b. cond b n (span_from d p (reverse before))) (itself n big))
   IsEffectiveSpan-only calls _ (ByRemoval before after is none) =
-      sym (by_place calls before after (RemoveSpans d) is none ∙ ap (λ b. cond b 1 (span_from d p (reverse before))) (same_itself d))
+      sym (by_index calls before after (RemoveSpans d) is none ∙ ap (λ b. cond b 1 (span_from d p (reverse before))) (same_itself d))
   IsEffectiveSpan-only calls _ (ByNone none) =
       sym (ap (span_from d p) (sym (append-nil (reverse calls))) ∙ skip calls [] none)
 
-  -- ---- what is said by place, from what the calls decide
+  -- ---- what is said by index, from what the calls decide
 
   one_more : (after : List SpanCall) (call : SpanCall) → decides_span d p call ≡ false → NoneDecides d p after → NoneDecides d p (after ++ call ∷ [])
   one_more after call keeps none = All-append (λ other. decides_span d p other ≡ false) after (call ∷ []) none (All-cons (λ other. decides_span d p other ≡ false) call [] keeps no_call)
@@ -80,8 +80,8 @@ module _ (d : Direction) (p : Position) where
       let first = and_parts _ _ is in
       let second = and_parts _ _ first.1 in
       let direction = same_direction e d first.0 in
-      let place = exact_position_eq q p second.1 in
-      BySet n (reverse older) [] (leb-true 1 n second.0) (λ i. reverse older ++ SetSpan (direction i) (place i) n ∷ []) no_call
+      let position = exact_position_eq q p second.1 in
+      BySet n (reverse older) [] (leb-true 1 n second.0) (λ i. reverse older ++ SetSpan (direction i) (position i) n ∷ []) no_call
   set_last e q n older rest false is = more (reverse older) (SetSpan e q n) _ is rest
 
   remove_last : (e : Direction) (older : List SpanCall) → IsEffectiveSpan d p (reverse older) (span_from d p older)

@@ -10,7 +10,7 @@ use Rattle.papergrid_values.specs.declared.direction.Direction.TheVariants.{Colu
 use Rattle.papergrid_values.specs.declared.position.Position.{Position}
 use Rattle.papergrid_values.specs.MapKeys.{position_cmp, position_eq}
 use Rattle.papergrid_maps.specs.Spans.{HasSpan, Spans, span_along, is_hidden_by, is_in_rectangle, is_visible, IsVisible, IsInRectangle}
-use Rattle.papergrid_values.proofs.AnyLemmas.{any_place}
+use Rattle.papergrid_values.proofs.AnyLemmas.{any_index}
 use Rattle.papergrid_values.proofs.KeyLemmas.{exact_position_eq, position_ties, position_equiv}
 
 -- the test of a rectangle
@@ -57,9 +57,9 @@ any_prepend test (x ∷ xs) ys h = or_right (test x) _ (any_prepend test xs ys h
 -- a position whose span is stored is among the keys
 among : (spans : FinMap position_cmp ℕ) (anchor : Position) (test : Position → Bool) → is_some (get spans anchor) ≡ true → test anchor ≡ true → list_any test (keys spans) ≡ true
 among spans anchor test stored passes =
-    let place = any_place _ (keys spans) (sym (contains_key-keys spans anchor) ∙ stored) in
-    let same = exact_position_eq anchor place.1 (position_ties anchor place.1 ∙ place.3) in
-    any_passes_from_place test (keys spans) place.0 place.1 place.2 (subst (λ q. test q ≡ true) same passes)
+    let position = any_index _ (keys spans) (sym (contains_key-keys spans anchor) ∙ stored) in
+    let same = exact_position_eq anchor position.1 (position_ties anchor position.1 ∙ position.3) in
+    any_passes_from_place test (keys spans) position.0 position.1 position.2 (subst (λ q. test q ≡ true) same passes)
 
 one_where_none : (o : Option ℕ) → (is_some o ≡ true → ⊥) → unwrap_or o 1 ≡ 1
 one_where_none None h = refl
@@ -100,9 +100,9 @@ visible_test spans p = (
       let anchors = keys spans.columns ++ keys spans.rows in
       elim (is_hidden_by (span_along spans) anchors p) as (λ b. is_hidden_by (span_along spans) anchors p ≡ b → not b ≡ true) [
         | true ↦ λ hidden.
-            let place = any_place (λ q. not (position_eq q p) && is_in_rectangle (span_along spans) q p) anchors hidden in
-            let parts = and_parts (not (position_eq place.1 p)) _ place.3 in
-            absurd (visible place.1 (apart_from_test place.1 p parts.0) (in_rectangle (span_along spans) place.1 p parts.1))
+            let position = any_index (λ q. not (position_eq q p) && is_in_rectangle (span_along spans) q p) anchors hidden in
+            let parts = and_parts (not (position_eq position.1 p)) _ position.3 in
+            absurd (visible position.1 (apart_from_test position.1 p parts.0) (in_rectangle (span_along spans) position.1 p parts.1))
         | false ↦ λ seen. refl
       ] refl),
 )

@@ -13,7 +13,7 @@ pub record IsWithin (anchor : Anchor) (p : Position) : Type 0 where
   pub after_left : anchor.position.col ≤ p.col
   pub before_right : p.col < anchor.position.col + anchor.cols
 
--- the place of the anchor at a position
+-- the index of the anchor at a position
 pub record HasAnchor (anchors : List Anchor) (p : Position) : Type 0 where
   pub index : ℕ
   pub anchor : Anchor

@@ -1,4 +1,4 @@
--- Which call decides the span of a position, by its place in the list of calls: apart from any search.
+-- Which call decides the span of a position, by its index in the list of calls: apart from any search.
 use Rattle.std.specs.Prelude.{◌≡◌, ◌≤◌, ℕ, ◌&&◌, nat_le, Bool, false, List, ◌∷◌, ◌++◌, All}
 use Rattle.papergrid_values.specs.declared.direction.Direction.{Direction}
 use Rattle.papergrid_values.specs.declared.position.Position.{Position}

@@ -27,23 +27,23 @@ pub(crate) fn covers_one(
     anchor: Position,
     columns: usize,
     rows: usize,
-    places: &[Position],
+    positions: &[Position],
 ) -> bool
-    requires { AllPairs (AreRising direction) places.now }
-    ensures { result ≡ list_any (covers anchor columns rows) places.now }
+    requires { AllPairs (AreRising direction) positions.now }
+    ensures { result ≡ list_any (covers anchor columns rows) positions.now }
 {
     let start = direction.number_of(anchor);
     let span = direction.number_of(Position::new(rows, columns));
-    let first = places.partition_point(
+    let first = positions.partition_point(
         |position: &Position| -> bool
             ensures { result ≡ nat_lt (along direction position.now) start }
         { direction.number_of(*position) < start },
     );
-    for i in first..places.len() {
-        if direction.number_of(places[i]) - start >= span {
+    for i in first..positions.len() {
+        if direction.number_of(positions[i]) - start >= span {
             return false;
         }
-        if is_covered(anchor, columns, rows, places[i]) {
+        if is_covered(anchor, columns, rows, positions[i]) {
             return true;
         }
     }

@@ -98,7 +98,7 @@ impl<T> EntityMap<T> {
     }
 
     /// The value stored for the cell, else for its column, else for its row, else for the
-    /// whole table: where calls tell the map, the one that they decide.
+    /// whole table: where calls made the map, the one that they decide.
     pub fn get(&self, position: Position) -> &T
         ensures stored { result.now ≡ stored_value self.now position }
         ensures effective { (given : T) (calls : List (MapCall T)) →
@@ -423,24 +423,24 @@ fn write_line<T: Clone>(
     Ok(())
 }
 
-// Writes a copy of the value at each of the places, or changes nothing.
+// Writes a copy of the value at each of the positions, or changes nothing.
 fn write_copies<T: Clone>(
     alloc: Global,
     cells: &mut HashMap<Position, T>,
-    places: &[Position],
+    positions: &[Position],
     value: &T,
 ) -> Result<(), AllocError>
     requires equal_clones { (x y : T) → T.is_clone x y → y ≡ x }
     ensures ok { OnOk result (HasAtEach position_eq cells.new (λ q.
-        if is_member position_eq places.now q then Some value.now
+        if is_member position_eq positions.now q then Some value.now
         else map_get position_eq cells.old q)) }
     ensures err { OnErr result (HasAtEach position_eq cells.new (map_get position_eq cells.old)) }
 {
-    let mut copies = vec![in alloc; value.clone()?; places.len()]?;
-    cells.reserve(places.len())?;
-    for place in places {
+    let mut copies = vec![in alloc; value.clone()?; positions.len()]?;
+    cells.reserve(positions.len())?;
+    for position in positions {
         let copy = copies.pop().unwrap();
-        put(cells, *place, copy);
+        put(cells, *position, copy);
     }
     Ok(())
 }
@@ -448,13 +448,13 @@ fn write_copies<T: Clone>(
 fn drop_column<T: Drop>(cells: &mut HashMap<Position, T>, col: usize)
     ensures { cells.new.entries ≡ filter (λ e. not (e.0.col == col)) cells.old.entries }
 {
-    cells.retain(|place, _| place.col != col);
+    cells.retain(|position, _| position.col != col);
 }
 
 fn drop_row<T: Drop>(cells: &mut HashMap<Position, T>, row: usize)
     ensures { cells.new.entries ≡ filter (λ e. not (e.0.row == row)) cells.old.entries }
 {
-    cells.retain(|place, _| place.row != row);
+    cells.retain(|position, _| position.row != row);
 }
 
 // Whether `f` is true of a value of the map.

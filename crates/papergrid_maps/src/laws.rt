@@ -35,10 +35,10 @@ pub fn history_makes_spans()
         spans.HasSpanHistory calls stored → stored ≡ spans_made calls }
 {}
 
-/// The span that calls decide is the one that their deciding call sets, by its place in the list:
+/// The span that calls decide is the one that their deciding call sets, by its index in the list:
 /// the last of those that set it to 1 or more and of those that remove all spans of its direction;
 /// and no other is.
-pub fn spans_by_place()
+pub fn spans_by_index()
     ensures effective { (calls : List SpanCall) (d : Direction) (position : Position) →
         IsEffectiveSpan d position calls (effective_span d position calls) }
     ensures only { (calls : List SpanCall) (d : Direction) (position : Position) (n : ℕ) →

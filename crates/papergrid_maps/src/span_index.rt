@@ -23,12 +23,12 @@ use std::collections::{BTreeMap, HashMap};
 use std::marker::Model;
 use std::ops::Bound;
 
-/// The spans of one direction. Those of one line stand next to each other, by their place in it: a
+/// The spans of one direction. Those of one line stand next to each other, by their index in it: a
 /// column span runs in its row, a row span in its column.
 #[derive(Debug, Drop)]
 pub(crate) struct SpanIndex {
     direction: Direction,
-    // By line and then by place: the keys of row spans have row and column exchanged.
+    // By line and then by index: the keys of row spans have row and column exchanged.
     spans: BTreeMap<Position, usize>,
 }
 
@@ -119,12 +119,12 @@ impl SpanIndex {
         &self,
         others: &SpanIndex,
         rising: Direction,
-        places: &[Position],
+        positions: &[Position],
     ) -> bool
-        requires { AllPairs (AreRising rising) places.now }
-        ensures { IsTrue result ↔ CoversOne self.now others.now.spans places.now }
+        requires { AllPairs (AreRising rising) positions.now }
+        ensures { IsTrue result ↔ CoversOne self.now others.now.spans positions.now }
     {
-        entries_cover(&self.spans, self.direction, others, rising, places)
+        entries_cover(&self.spans, self.direction, others, rising, positions)
     }
 
     /// Whether each span ends within so many tracks.
@@ -135,7 +135,7 @@ impl SpanIndex {
     }
 
     /// The anchors of the positions that hold a span, where `others` has the spans of the other
-    /// direction, by line and then by place, or out of memory.
+    /// direction, by line and then by index, or out of memory.
     pub(crate) fn anchors(
         &self,
         alloc: Global,
@@ -204,7 +204,7 @@ pub(crate) fn extent_of(direction: Direction, span: usize, other: usize) -> Exte
     }
 }
 
-// The line and the place in it of a position, and the position of a line and a place.
+// The line and the index in it of a position, and the position of a line and an index.
 fn key_of(direction: Direction, position: Position) -> Position
     ensures { result ≡ key_of direction position }
 {
@@ -214,7 +214,7 @@ fn key_of(direction: Direction, position: Position) -> Position
     }
 }
 
-// Whether each span ends within so many places of its line. What begins past them ends past them.
+// Whether each span ends within so many tracks of its line. What begins past them ends past them.
 fn entries_end_within(spans: &BTreeMap<Position, usize>, count: usize) -> bool
     ensures { result ≡ list_all (λ e. nat_le (e.0.col + e.1) count) spans.now.entries }
 {
@@ -268,15 +268,15 @@ fn entries_cover(
     direction: Direction,
     others: &SpanIndex,
     rising: Direction,
-    places: &[Position],
+    positions: &[Position],
 ) -> bool
-    requires { AllPairs (AreRising rising) places.now }
+    requires { AllPairs (AreRising rising) positions.now }
     ensures { result
-        ≡ list_any (covers_stored direction others.now.spans places.now) spans.now.entries }
+        ≡ list_any (covers_stored direction others.now.spans positions.now) spans.now.entries }
 {
     spans.iter().any(|(key, span)| {
         let anchor = key_of(direction, *key);
         let extent = extent_of(direction, *span, others.get(anchor).unwrap_or(1));
-        covers_one(rising, anchor, extent.columns, extent.rows, places)
+        covers_one(rising, anchor, extent.columns, extent.rows, positions)
     })
 }

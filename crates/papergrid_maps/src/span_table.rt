@@ -242,14 +242,14 @@ impl SpanTable {
 
     /// Whether all of the positions, of which the columns or the rows rise, are visible. Each span is
     /// looked at once, with those of the positions alone that its rectangle can have.
-    pub fn are_visible(&self, direction: Direction, places: &[Position]) -> bool
-        requires { AllPairs (AreRising direction) places.now }
-        ensures { IsTrue result ↔ All (λ p. IsTrue (is_visible self.now p)) places.now }
+    pub fn are_visible(&self, direction: Direction, positions: &[Position]) -> bool
+        requires { AllPairs (AreRising direction) positions.now }
+        ensures { IsTrue result ↔ All (λ p. IsTrue (is_visible self.now p)) positions.now }
     {
-        if self.columns.covers_one(&self.rows, direction, places) {
+        if self.columns.covers_one(&self.rows, direction, positions) {
             return false;
         }
-        !self.rows.covers_one(&self.columns, direction, places)
+        !self.rows.covers_one(&self.columns, direction, positions)
     }
 }
 

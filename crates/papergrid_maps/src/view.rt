@@ -34,10 +34,10 @@ pub trait ConfigView {
 
     /// Whether the cells at all of these positions are visible, of which the numbers along a direction
     /// rise.
-    fn are_visible(&self, direction: Direction, places: &[Position]) -> bool
-        requires { AllPairs (AreRising direction) places.now }
+    fn are_visible(&self, direction: Direction, positions: &[Position]) -> bool
+        requires { AllPairs (AreRising direction) positions.now }
         ensures { IsTrue result ↔ All (λ position. IsTrue ((grid self.now).shows position))
-            places.now };
+            positions.now };
 
     /// What hides cells: the anchors of all spans, by row and then by column.
     fn anchors(&self, alloc: Global) -> Result<Vec<Anchor>, AllocError>
@@ -125,7 +125,7 @@ impl ConfigView for CompactConfig {
         true
     }
 
-    fn are_visible(&self, _direction: Direction, _places: &[Position]) -> bool {
+    fn are_visible(&self, _direction: Direction, _positions: &[Position]) -> bool {
         let _config = self;
         true
     }

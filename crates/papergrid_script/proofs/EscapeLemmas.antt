@@ -27,32 +27,32 @@ mapped_none : (o : Option (List ℕ)) → o ≡ option_map (λ more. [] ++ more)
 mapped_none None = refl
 mapped_none (Some more) = refl
 
--- the first byte is the one, or the place is one further on in the rest
-first_place : (b : Bool) (m : ℕ) → cond (not b) (1 + m) 0 ≡ 0 → b ≡ true
-first_place true m h = refl
-first_place false m h = absurd (omega arith)
+-- the first byte is the one, or the position is one further on in the rest
+first_position : (b : Bool) (m : ℕ) → cond (not b) (1 + m) 0 ≡ 0 → b ≡ true
+first_position true m h = refl
+first_position false m h = absurd (omega arith)
 
-later_place : (b : Bool) (m n : ℕ) → cond (not b) (1 + m) 0 ≡ suc n → (b ≡ false) × (m ≡ n)
-later_place true m n h = absurd (omega arith)
-later_place false m n h = (refl, omega arith)
+later_position : (b : Bool) (m n : ℕ) → cond (not b) (1 + m) 0 ≡ suc n → (b ≡ false) × (m ≡ n)
+later_position true m n h = absurd (omega arith)
+later_position false m n h = (refl, omega arith)
 
 pub unescaped-parted : (bs : List ℕ) (n : ℕ) → position_or_len is_backslash bs ≡ n → n < length bs → unescaped bs ≡ option_map (λ more. take n bs ++ more) (unescaped (92 ∷ drop (n + 1) bs))
 unescaped-parted [] n at within = absurd (omega arith)
 unescaped-parted (b ∷ bs) zero at within =
-    let slash : b ≡ 92 = eqb-true b 92 (first_place (nat_eq b 92) _ at) in
+    let slash : b ≡ 92 = eqb-true b 92 (first_position (nat_eq b 92) _ at) in
     rw slash (mapped_none (unescaped (92 ∷ bs)))
 unescaped-parted (b ∷ bs) (suc n) at within =
-    let place = later_place (nat_eq b 92) _ n at in
+    let position = later_position (nat_eq b 92) _ n at in
     let next : suc n + 1 ≡ suc (n + 1) = omega arith in
-    unescaped-plain b bs place.0 ∙ ap (option_map (λ rest. b ∷ rest)) (unescaped-parted bs n place.1 (omega arith))
+    unescaped-plain b bs position.0 ∙ ap (option_map (λ rest. b ∷ rest)) (unescaped-parted bs n position.1 (omega arith))
     ∙ rw next (mapped_twice b (take n bs) (unescaped (92 ∷ drop (n + 1) bs)))
 
 pub unescaped-whole : (bs : List ℕ) → position_or_len is_backslash bs ≡ length bs → unescaped bs ≡ Some bs
 unfolding unescaped
 unescaped-whole [] none = refl
 unescaped-whole (b ∷ bs) none =
-    let place = later_place (nat_eq b 92) _ (length bs) none in
-    unescaped-plain b bs place.0 ∙ ap (option_map (λ rest. b ∷ rest)) (unescaped-whole bs place.1)
+    let position = later_position (nat_eq b 92) _ (length bs) none in
+    unescaped-plain b bs position.0 ∙ ap (option_map (λ rest. b ∷ rest)) (unescaped-whole bs position.1)
 
 put_mapped : (o : Option ℕ) (bs left : List ℕ) (meant : ℕ) → option_map {U = ℕ × List ℕ} (λ m. (m, bs)) o ≡ Some (meant, left) → put_first o (unescaped bs) ≡ option_map (λ more. meant ∷ more) (unescaped left)
 put_mapped None bs left meant h = cc

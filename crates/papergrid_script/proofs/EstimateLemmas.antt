@@ -71,7 +71,7 @@ none_large Least problem none = none.too_large
 found_certificate : (sizing : Sizing) (problem : Problem) (found : Option (List Position)) → IsCertificateBy sizing problem found → found ≡ (solution_by sizing problem).certificate
 found_certificate ByShares problem found is = certificate_is problem found is
 found_certificate Least problem None is = absurd is
-found_certificate Least problem (Some places) critical_path = ap Some (exact-critical_path problem places critical_path)
+found_certificate Least problem (Some positions) critical_path = ap Some (exact-critical_path problem positions critical_path)
 
 -- what is found is what is chosen, with its total and certificate
 found_solution : (sizing : Sizing) (problem : Problem) (found : Solution) → IsSolutionBy sizing problem found → found ≡ solution_by sizing problem
@@ -95,9 +95,9 @@ module _ {C : Type 0} (grid : Grid) (measure : C → ℕ × ℕ) (columns : ℕ)
     abbrev pub down : Problem
     down = problem_of grid measure columns cells Rows
 
-    pub estimate_out : (place : Position) → first_out_of_table grid measure columns cells ≡ Some place → estimate_by sizing grid measure columns cells ≡ OutOfTable place
+    pub estimate_out : (position : Position) → first_out_of_table grid measure columns cells ≡ Some position → estimate_by sizing grid measure columns cells ≡ OutOfTable position
     unfolding estimate_by
-    estimate_out place first = ap (λ o. unless_out o (unless_large (solutions_by sizing across down))) first
+    estimate_out position first = ap (λ o. unless_out o (unless_large (solutions_by sizing across down))) first
 
     estimate_inside : first_out_of_table grid measure columns cells ≡ None → estimate_by sizing grid measure columns cells ≡ unless_large (solutions_by sizing across down)
     unfolding estimate_by
@@ -140,13 +140,13 @@ pub estimated : {C : Type 0} (Tells : List (List C) → Type 0) (sizing : Sizing
     → GivesEstimate result (λ answer. (cells : List (List C)) × Tells cells × (answer ≡ estimate_by sizing grid measure columns cells))
 estimated Tells sizing grid measure columns (Ok found) is =
     (is.0, is.1, sym (estimate_found grid measure columns is.0 sizing (solutions_of found) (record { widths = is.2.widths; heights = is.2.heights })))
-estimated Tells sizing grid measure columns (Err (layout_errors.OutOfTable place)) is = (is.0, is.1, sym (estimate_out grid measure columns is.0 sizing place is.2))
+estimated Tells sizing grid measure columns (Err (layout_errors.OutOfTable position)) is = (is.0, is.1, sym (estimate_out grid measure columns is.0 sizing position is.2))
 estimated Tells sizing grid measure columns (Err layout_errors.TooLarge) is = (is.0, is.1, sym (estimate_none grid measure columns is.0 sizing is.2.0 is.2.1))
 estimated Tells sizing grid measure columns (Err (layout_errors.Memory e)) is = tt
 
 -- an estimate that is so is also what follows from it
 pub gives_also : (result : Result (PerDirection Solved) LayoutError) (IsSo IsAlso : Estimate → Type 0) → ((e : Estimate) → IsSo e → IsAlso e) → GivesEstimate result IsSo → GivesEstimate result IsAlso
 gives_also (Ok found) IsSo IsAlso follows so = follows _ so
-gives_also (Err (layout_errors.OutOfTable place)) IsSo IsAlso follows so = follows _ so
+gives_also (Err (layout_errors.OutOfTable position)) IsSo IsAlso follows so = follows _ so
 gives_also (Err layout_errors.TooLarge) IsSo IsAlso follows so = follows _ so
 gives_also (Err (layout_errors.Memory e)) IsSo IsAlso follows so = so

@@ -64,7 +64,7 @@ pub answer_read : {A C : Type 0} (Tells : List (List C) → Type 0) (holds : Gri
     → IfErr result (λ e. UnlessMemoryError e ((cells : List (List C)) × Tells cells × holds grid cells (Err e)))
     → UnlessMemory result ((cells : List (List C)) × Tells cells × holds other cells result)
 answer_read {C = C} Tells holds grid other same (Ok x) ok err = subst (λ l. (cells : List (List C)) × Tells cells × holds l cells (Ok x)) same ok
-answer_read {C = C} Tells holds grid other same (Err (OutOfTable place)) ok err = subst (λ l. (cells : List (List C)) × Tells cells × holds l cells (Err (OutOfTable place))) same err
+answer_read {C = C} Tells holds grid other same (Err (OutOfTable position)) ok err = subst (λ l. (cells : List (List C)) × Tells cells × holds l cells (Err (OutOfTable position))) same err
 answer_read {C = C} Tells holds grid other same (Err TooLarge) ok err = subst (λ l. (cells : List (List C)) × Tells cells × holds l cells (Err TooLarge)) same err
 answer_read Tells holds grid other same (Err (Memory e)) ok err = tt
 

@@ -11,7 +11,7 @@ use Rattle.papergrid_values.specs.declared.direction.Direction.TheVariants.{Colu
 use Rattle.papergrid_tracks.specs.Certificates.{certificate_cells_of}
 use Rattle.papergrid_tracks.specs.Laminar.{is_laminar}
 use Rattle.papergrid_tracks.specs.Problem.{Problem, total_of}
-use Rattle.papergrid_tracks.specs.Ranges.{IsInTable, first_out, place_of}
+use Rattle.papergrid_tracks.specs.Ranges.{IsInTable, first_out, position_of}
 use Rattle.papergrid_tracks.specs.Sizes.{sizes_of}
 use Rattle.papergrid_tracks.proofs.LaminarLemmas.{Decides-is_laminar, SomeCross-from_test}
 use Rattle.papergrid_tracks.proofs.OutLemmas as out_lemmas
@@ -50,7 +50,7 @@ module _ (problem : Problem) (table : All (IsInTable problem.count) problem.dema
   shares_certificate : total_of problem (sizes_of problem) < 2 ^ 64 → IsCertificateBy ByShares problem (certificate_by_shares problem)
   shares_certificate small = by_test (is_laminar problem.demands) refl
     where
-      by_test : (test : Bool) → is_laminar problem.demands ≡ test → IsCertificateBy ByShares problem (if test then Some (map place_of (certificate_cells_of problem)) else None)
+      by_test : (test : Bool) → is_laminar problem.demands ≡ test → IsCertificateBy ByShares problem (if test then Some (map position_of (certificate_cells_of problem)) else None)
       by_test true t =
           let apart = (Decides-is_laminar problem.demands).0 t in
           record { none_out = inside; total = small; laminar = apart; exact = refl; certificate = IsCertificate-certificate_cells_of problem table apart }
@@ -71,10 +71,10 @@ module _ (problem : Problem) (table : All (IsInTable problem.count) problem.dema
 -- ---- the three answers
 
 estimate_cases : (o : Option Position) (found : PerDirection Solution) (e : Estimate) → unless_out o (unless_large found) ≡ e
-    → ((place : Position) × (o ≡ Some place) × (e ≡ OutOfTable place))
+    → ((position : Position) × (o ≡ Some position) × (e ≡ OutOfTable position))
     ⊎ (((o ≡ None) × (e ≡ TooLarge) × ((2 ^ 64 ≤ found.columns.total) ⊎ (2 ^ 64 ≤ found.rows.total)))
     ⊎ ((o ≡ None) × (e ≡ Sized found) × (found.columns.total < 2 ^ 64) × (found.rows.total < 2 ^ 64)))
-estimate_cases (Some place) found e is = inl (place, refl, sym is)
+estimate_cases (Some position) found e is = inl (position, refl, sym is)
 estimate_cases None found e is = elim (by_test found.columns.total found.rows.total is (nat_le (2 ^ 64) found.columns.total) (nat_le (2 ^ 64) found.rows.total) refl refl) [
   | inl large ↦ inr (inl (refl, large.0, large.1))
   | inr sized ↦ inr (inr (refl, sized.0, sized.1, sized.2))
@@ -114,7 +114,7 @@ module _ (table : Table) where
     solutions = solutions_by sizing (problem_of_table table Columns) (problem_of_table table Rows)
 
     cases : (e : Estimate) → estimate_of sizing table ≡ e
-        → ((place : Position) × (first ≡ Some place) × (e ≡ OutOfTable place))
+        → ((position : Position) × (first ≡ Some position) × (e ≡ OutOfTable position))
         ⊎ (((first ≡ None) × (e ≡ TooLarge) × ((2 ^ 64 ≤ total Columns) ⊎ (2 ^ 64 ≤ total Rows)))
         ⊎ ((first ≡ None) × (e ≡ Sized solutions) × (total Columns < 2 ^ 64) × (total Rows < 2 ^ 64)))
     unfolding estimate_by
@@ -153,13 +153,13 @@ module _ (table : Table) where
           ];
         }
 
-    pub out_named : (place : Position) → (estimate_of sizing table ≡ OutOfTable place) ↔ (first ≡ Some place)
-    out_named place = (
-      λ is. elim (cases (OutOfTable place) is) [
-        | inl out ↦ let same : out.0 ≡ place = cc out.2 in out.1 ∙ ap (λ p. Some p) same
+    pub out_named : (position : Position) → (estimate_of sizing table ≡ OutOfTable position) ↔ (first ≡ Some position)
+    out_named position = (
+      λ is. elim (cases (OutOfTable position) is) [
+        | inl out ↦ let same : out.0 ≡ position = cc out.2 in out.1 ∙ ap (λ p. Some p) same
         | inr other ↦ elim other [ inl large ↦ cc large.1 | inr sized ↦ cc sized.1 ]
       ],
-      estimate_out grid text_measure table.columns table.rows sizing place,
+      estimate_out grid text_measure table.columns table.rows sizing position,
     )
 
     named_large : estimate_of sizing table ≡ TooLarge → (first ≡ None) × ((2 ^ 64 ≤ total Columns) ⊎ (2 ^ 64 ≤ total Rows))

@@ -17,4 +17,4 @@ pub mod RunLemmas
 mod ScriptLineLemmas
 mod SeenLemmas
 mod SpellLemmas
-mod TellsLemmas
+mod DescribesLemmas

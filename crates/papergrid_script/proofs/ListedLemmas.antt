@@ -66,22 +66,22 @@ module _ {K X : Type 0} (R : K → K → Ordering) where
 
 -- by the value of the whole table, the frame, the lines across that end there, a line of its own, the edges and the corners
 abbrev line_by : {T A L : Type 0} → Option T → Bool → (Option A → Bool) → List (ℕ × A) → List (ℕ × L) → (Position → ℕ) → List (Position × T) → List (Position × T) → ℕ → Bool
-line_by global framed ends across lines number edges corners place =
+line_by global framed ends across lines number edges corners position =
     is_some global
     || (framed
     || (list_any (λ k. ends (find nat_cmp k across)) (map (λ e. e.0) across)
-    || (is_some (find nat_cmp place lines)
-    || (list_any (λ p. number p == place) (map (λ e. e.0) edges) || list_any (λ p. number p == place) (map (λ e. e.0) corners)))))
+    || (is_some (find nat_cmp position lines)
+    || (list_any (λ p. number p == position) (map (λ e. e.0) edges) || list_any (λ p. number p == position) (map (λ e. e.0) corners)))))
 
-line-entries : {T A L : Type 0} (global : Option T) (framed : Bool) (ends : Option A → Bool) (across : FinMap nat_cmp A) (lines : FinMap nat_cmp L) (number : Position → ℕ) (edges corners : FinMap position_cmp T) (place : ℕ)
-    → (is_some global || (framed || (list_any (λ k. ends (get across k)) (keys across) || (contains_key lines place || (list_any (λ p. number p == place) (keys edges) || list_any (λ p. number p == place) (keys corners))))))
-    ≡ line_by global framed ends (entries across) (entries lines) number (entries edges) (entries corners) place
-line-entries global framed ends across lines number edges corners place = λ i.
+line-entries : {T A L : Type 0} (global : Option T) (framed : Bool) (ends : Option A → Bool) (across : FinMap nat_cmp A) (lines : FinMap nat_cmp L) (number : Position → ℕ) (edges corners : FinMap position_cmp T) (position : ℕ)
+    → (is_some global || (framed || (list_any (λ k. ends (get across k)) (keys across) || (contains_key lines position || (list_any (λ p. number p == position) (keys edges) || list_any (λ p. number p == position) (keys corners))))))
+    ≡ line_by global framed ends (entries across) (entries lines) number (entries edges) (entries corners) position
+line-entries global framed ends across lines number edges corners position = λ i.
     is_some global
     || (framed
     || (list_any (λ k. ends (get-entries across k i)) (map (λ e. e.0) (entries across))
-    || (is_some (get-entries lines place i)
-    || (list_any (λ p. number p == place) (map (λ e. e.0) (entries edges)) || list_any (λ p. number p == place) (map (λ e. e.0) (entries corners))))))
+    || (is_some (get-entries lines position i)
+    || (list_any (λ p. number p == position) (map (λ e. e.0) (entries edges)) || list_any (λ p. number p == position) (map (λ e. e.0) (entries corners))))))
 
 module _ {T : Type 0} (global : Option T) (frame : Borders T) where
   abbrev pub vertical_by : List (ℕ × HorizontalLine T) → List (ℕ × VerticalLine T) → List (Position × T) → List (Position × T) → ℕ → ℕ → Bool
@@ -186,12 +186,12 @@ module _ (calls : List SpanCall) where
 -- ---- what is read of settings, by lists
 
 abbrev pub lines_listed : List (BorderCall ℕ) → Direction → ℕ → ℕ → Bool
-lines_listed calls Columns count place = vertical_listed calls place count
-lines_listed calls Rows count place = horizontal_listed calls place count
+lines_listed calls Columns count position = vertical_listed calls position count
+lines_listed calls Rows count position = horizontal_listed calls position count
 
-made_lines : (calls : List (BorderCall ℕ)) (direction : Direction) (count place : ℕ) → line_along (borders_made calls) direction count place ≡ lines_listed calls direction count place
-made_lines calls Columns count place = made_vertical calls place count
-made_lines calls Rows count place = made_horizontal calls place count
+made_lines : (calls : List (BorderCall ℕ)) (direction : Direction) (count position : ℕ) → line_along (borders_made calls) direction count position ≡ lines_listed calls direction count position
+made_lines calls Columns count position = made_vertical calls position count
+made_lines calls Rows count position = made_horizontal calls position count
 
 abbrev pub grid_by : (Position → Sides Indent) → List (Position × ℕ) → List (Position × ℕ) → List (BorderCall ℕ) → Grid
 grid_by padding columns rows lines = record {
@@ -217,7 +217,7 @@ grid_listed settings =
       span = λ direction p. made_spans calls direction p i;
       before = λ direction p. size_before direction (effective.padding settings p);
       after = λ direction p. size_after direction (effective.padding settings p);
-      draws = λ direction count place. made_lines lines direction count place i;
+      draws = λ direction count position. made_lines lines direction count position i;
     }
 
 -- ---- what is written

@@ -13,17 +13,17 @@ use Rattle.papergrid_script.specs.Grammar.{Said, Nothing, Columns, Set, Row, Cel
 use Rattle.papergrid_script.specs.Scripts.{Table, table_of}
 use Rattle.papergrid_script.specs.Settings.{setting_told}
 use Rattle.papergrid_script.specs.Spelling.{IsSetting, Pad, Colspan, Rowspan, Border, Vline, Hline, Novline, Nohline}
-use Rattle.papergrid_script.specs.Tells.{setting_said}
+use Rattle.papergrid_script.specs.Describes.{setting_said}
 use Rattle.papergrid_script.proofs.ReadLemmas.{line_read}
-use Rattle.papergrid_script.proofs.TellsLemmas.{told}
+use Rattle.papergrid_script.proofs.DescribesLemmas.{told}
 
 abbrev InRange : Setting → Type 0
 InRange setting = is_in_range setting ≡ true
 
 spelled_in_range : (line : List ℕ) (setting : Setting) → IsSetting line setting → InRange setting
 spelled_in_range _ _ (Pad spelled rest entity sides is_entity are_sides) = refl
-spelled_in_range _ _ (Colspan spelled digits place n is_position is_number) = refl
-spelled_in_range _ _ (Rowspan spelled digits place n is_position is_number) = refl
+spelled_in_range _ _ (Colspan spelled digits position n is_position is_number) = refl
+spelled_in_range _ _ (Rowspan spelled digits position n is_position is_number) = refl
 spelled_in_range _ _ (Border x c is_character) = refl
 spelled_in_range _ _ (Vline digits x col c is_number is_character) = refl
 spelled_in_range _ _ (Hline digits x row c is_number is_character) = refl
@@ -48,8 +48,8 @@ settings_in_range input table h =
 
 told_in_range : (setting : ScriptSetting) → InRange (setting_told setting)
 told_in_range (Padding entity sides) = refl
-told_in_range (ColumnSpan place count) = refl
-told_in_range (RowSpan place count) = refl
+told_in_range (ColumnSpan position count) = refl
+told_in_range (RowSpan position count) = refl
 told_in_range (script_settings.Border c) = refl
 told_in_range (VerticalLine col c) = refl
 told_in_range (HorizontalLine row c) = refl

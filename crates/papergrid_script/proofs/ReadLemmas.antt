@@ -20,7 +20,7 @@ use Rattle.papergrid_config.specs.declared.setting.Setting.{Setting}
 use Rattle.papergrid_config.specs.declared.setting.Setting.TheVariants.{SetPadding, SetColumnSpan, SetRowSpan, SetBorders, InsertVerticalLine, InsertHorizontalLine, RemoveVerticalLine, RemoveHorizontalLine}
 use Rattle.papergrid_values.specs.Compact.{spaces}
 use Rattle.papergrid_text.specs.Text.{character_of}
-use Rattle.papergrid_script.specs.Grammar.{◌>>=◌, Said, Nothing, Columns, Set, Row, Cell, pair_at, parted_at, number_said, position_said, placed_span, entity_said, sides_of, padding_of, placed_character, vertical_main, horizontal_main, keyword_setting, keyword_says, text_says, line_says}
+use Rattle.papergrid_script.specs.Grammar.{◌>>=◌, Said, Nothing, Columns, Set, Row, Cell, pair_at, parted_at, number_said, position_said, position_and_count, entity_said, sides_of, padding_of, number_and_character, vertical_main, horizontal_main, keyword_setting, keyword_says, text_says, line_says}
 use Rattle.papergrid_script.specs.Spelling.{IsNumber, IsPosition, IsEntity, AreSides, IsCharacter, IsSetting, Pad, Colspan, Rowspan, Border, Vline, Hline, Novline, Nohline, Means, Ended, Plain, Newline, Tab, Backslash, IsLine}
 use Rattle.papergrid_script.proofs.CharacterLemmas.{character_read, text_behind}
 use Rattle.papergrid_script.specs.Texts.{unescaped, escape_of, put_first}
@@ -92,12 +92,12 @@ starts_one c (b ∷ bs) h = ap (λ x. x ∷ bs) (sym (eqb-true c b (and_parts _ 
 
 -- the cell at a position
 abbrev pub cell_at : Position → Entity
-cell_at place = entities.Cell place.row place.col
+cell_at position = entities.Cell position.row position.col
 
-position_read : (bytes : List ℕ) (place : Position) → position_said bytes ≡ Some place → IsPosition bytes place
+position_read : (bytes : List ℕ) (position : Position) → position_said bytes ≡ Some position → IsPosition bytes position
 unfolding position_said
-position_read bytes place h =
-    let at = map_some positions.position_of (pair_at 44 number_said number_said bytes) place h in
+position_read bytes position h =
+    let at = map_some positions.position_of (pair_at 44 number_said number_said bytes) position h in
     let pair = pair_read 44 number_said number_said bytes at.0 at.1 in
     subst (IsPosition bytes) at.2 (pair.front, pair.back, number_read _ _ pair.is_front, number_read _ _ pair.is_back, pair.whole)
 
@@ -109,7 +109,7 @@ entity_read bytes entity h = elim (chosen (bytes_eq bytes (codes "*")) (Some ent
     | inl col ↦ let n = map_some entities.Column (number_said (drop 1 bytes)) entity col.1 in subst (IsEntity bytes) n.2 (drop 1 bytes, number_read _ _ n.1, starts_one 99 bytes col.0)
     | inr more ↦ elim (chosen (starts_with nat_eq bytes (codes "r")) (option_map entities.Row (number_said (drop 1 bytes))) (option_map cell_at (position_said bytes)) (Some entity) more.1) [
       | inl row ↦ let n = map_some entities.Row (number_said (drop 1 bytes)) entity row.1 in subst (IsEntity bytes) n.2 (drop 1 bytes, number_read _ _ n.1, starts_one 114 bytes row.0)
-      | inr cell ↦ let place = map_some cell_at (position_said bytes) entity cell.1 in subst (IsEntity bytes) place.2 (position_read bytes place.0 place.1)
+      | inr cell ↦ let position = map_some cell_at (position_said bytes) entity cell.1 in subst (IsEntity bytes) position.2 (position_read bytes position.0 position.1)
     ]
   ]
 ]
@@ -157,11 +157,11 @@ worded keyword word rest setting same h = subst (λ (w : List ℕ). IsSetting (w
 
 -- a span of either direction, by the word that begins it
 spanned_read : (word : List ℕ) (set : Position → ℕ → Setting)
-    → ((spelled digits : List ℕ) (place : Position) (n : ℕ) → IsPosition spelled place → IsNumber digits n → IsSetting (word ++ (spelled ++ 32 ∷ digits)) (set place n))
-    → (rest : List ℕ) (setting : Setting) → option_map (λ at. set at.0 at.1) (placed_span rest) ≡ Some setting → IsSetting (word ++ rest) setting
-unfolding placed_span
+    → ((spelled digits : List ℕ) (position : Position) (n : ℕ) → IsPosition spelled position → IsNumber digits n → IsSetting (word ++ (spelled ++ 32 ∷ digits)) (set position n))
+    → (rest : List ℕ) (setting : Setting) → option_map (λ at. set at.0 at.1) (position_and_count rest) ≡ Some setting → IsSetting (word ++ rest) setting
+unfolding position_and_count
 spanned_read word set spells rest setting h =
-    let at = map_some (λ (at : Position × ℕ). set at.0 at.1) (placed_span rest) setting h in
+    let at = map_some (λ (at : Position × ℕ). set at.0 at.1) (position_and_count rest) setting h in
     let pair = pair_read 32 position_said number_said rest at.0 at.1 in
     subst (IsSetting (word ++ rest)) at.2
     (subst (λ (r : List ℕ). IsSetting (word ++ r) (set at.0.0 at.0.1)) (sym pair.whole)
@@ -173,11 +173,11 @@ border_read rest setting text h =
     subst (IsSetting (codes "border " ++ rest)) c.2 (Border rest c.0 (character_read rest c.0 text c.1))
 
 -- a line of either direction, by the word that begins it
-lined_read : (word : List ℕ) (set : ℕ → ℕ → Setting) → ((digits x : List ℕ) (place c : ℕ) → IsNumber digits place → IsCharacter x c → IsSetting (word ++ (digits ++ 32 ∷ x)) (set place c))
-    → (rest : List ℕ) (setting : Setting) → IsUtf8 rest → option_map (λ at. set at.0 at.1) (placed_character rest) ≡ Some setting → IsSetting (word ++ rest) setting
-unfolding placed_character
+lined_read : (word : List ℕ) (set : ℕ → ℕ → Setting) → ((digits x : List ℕ) (position c : ℕ) → IsNumber digits position → IsCharacter x c → IsSetting (word ++ (digits ++ 32 ∷ x)) (set position c))
+    → (rest : List ℕ) (setting : Setting) → IsUtf8 rest → option_map (λ at. set at.0 at.1) (number_and_character rest) ≡ Some setting → IsSetting (word ++ rest) setting
+unfolding number_and_character
 lined_read word set spells rest setting text h =
-    let at = map_some (λ (at : ℕ × ℕ). set at.0 at.1) (placed_character rest) setting h in
+    let at = map_some (λ (at : ℕ × ℕ). set at.0 at.1) (number_and_character rest) setting h in
     let pair = pair_read 32 number_said character_of rest at.0 at.1 in
     let behind = text_behind pair.front pair.back 32 (lit< tt) (subst IsUtf8 pair.whole text) in
     subst (IsSetting (word ++ rest)) at.2
@@ -198,17 +198,17 @@ nohline_read rest setting h =
 abbrev line_setting : List ℕ → List ℕ → Option Setting
 line_setting keyword rest =
     cond (bytes_eq keyword (codes "border")) (option_map (λ c. SetBorders (frame_with (Some c))) (character_of rest))
-    (cond (bytes_eq keyword (codes "vline")) (option_map (λ at. InsertVerticalLine at.0 (vertical_main at.1)) (placed_character rest))
-    (cond (bytes_eq keyword (codes "hline")) (option_map (λ at. InsertHorizontalLine at.0 (horizontal_main at.1)) (placed_character rest))
+    (cond (bytes_eq keyword (codes "vline")) (option_map (λ at. InsertVerticalLine at.0 (vertical_main at.1)) (number_and_character rest))
+    (cond (bytes_eq keyword (codes "hline")) (option_map (λ at. InsertHorizontalLine at.0 (horizontal_main at.1)) (number_and_character rest))
     (cond (bytes_eq keyword (codes "novline")) (option_map (λ col. RemoveVerticalLine col 0) (number_said rest))
     (cond (bytes_eq keyword (codes "nohline")) (option_map (λ row. RemoveHorizontalLine row 0) (number_said rest)) None))))
 
 line_setting_read : (keyword rest : List ℕ) (setting : Setting) → IsUtf8 rest → line_setting keyword rest ≡ Some setting → IsSetting (keyword ++ 32 ∷ rest) setting
 line_setting_read keyword rest setting text h = elim (chosen (bytes_eq keyword (codes "border")) (option_map (λ c. SetBorders (frame_with (Some c))) (character_of rest)) _ (Some setting) h) [
   | inl border ↦ worded keyword (codes "border") rest setting border.0 (border_read rest setting text border.1)
-  | inr past_border ↦ elim (chosen (bytes_eq keyword (codes "vline")) (option_map (λ at. InsertVerticalLine at.0 (vertical_main at.1)) (placed_character rest)) _ (Some setting) past_border.1) [
+  | inr past_border ↦ elim (chosen (bytes_eq keyword (codes "vline")) (option_map (λ at. InsertVerticalLine at.0 (vertical_main at.1)) (number_and_character rest)) _ (Some setting) past_border.1) [
     | inl vline ↦ worded keyword (codes "vline") rest setting vline.0 (lined_read (codes "vline ") (λ col c. InsertVerticalLine col (vertical_main c)) Vline rest setting text vline.1)
-    | inr past_vline ↦ elim (chosen (bytes_eq keyword (codes "hline")) (option_map (λ at. InsertHorizontalLine at.0 (horizontal_main at.1)) (placed_character rest)) _ (Some setting) past_vline.1) [
+    | inr past_vline ↦ elim (chosen (bytes_eq keyword (codes "hline")) (option_map (λ at. InsertHorizontalLine at.0 (horizontal_main at.1)) (number_and_character rest)) _ (Some setting) past_vline.1) [
       | inl hline ↦ worded keyword (codes "hline") rest setting hline.0 (lined_read (codes "hline ") (λ row c. InsertHorizontalLine row (horizontal_main c)) Hline rest setting text hline.1)
       | inr past_hline ↦ elim (chosen (bytes_eq keyword (codes "novline")) (option_map (λ col. RemoveVerticalLine col 0) (number_said rest)) _ (Some setting) past_hline.1) [
         | inl novline ↦ worded keyword (codes "novline") rest setting novline.0 (novline_read rest setting novline.1)
@@ -225,9 +225,9 @@ setting_read : (keyword rest : List ℕ) (setting : Setting) → IsUtf8 rest →
 unfolding keyword_setting
 setting_read keyword rest setting text h = elim (chosen (bytes_eq keyword (codes "pad")) (padding_of rest) _ (Some setting) h) [
   | inl pad ↦ worded keyword (codes "pad") rest setting pad.0 (padding_read rest setting pad.1)
-  | inr past_pad ↦ elim (chosen (bytes_eq keyword (codes "colspan")) (option_map (λ at. SetColumnSpan at.0 at.1) (placed_span rest)) _ (Some setting) past_pad.1) [
+  | inr past_pad ↦ elim (chosen (bytes_eq keyword (codes "colspan")) (option_map (λ at. SetColumnSpan at.0 at.1) (position_and_count rest)) _ (Some setting) past_pad.1) [
     | inl colspan ↦ worded keyword (codes "colspan") rest setting colspan.0 (spanned_read (codes "colspan ") SetColumnSpan Colspan rest setting colspan.1)
-    | inr past_colspan ↦ elim (chosen (bytes_eq keyword (codes "rowspan")) (option_map (λ at. SetRowSpan at.0 at.1) (placed_span rest)) (line_setting keyword rest) (Some setting) past_colspan.1) [
+    | inr past_colspan ↦ elim (chosen (bytes_eq keyword (codes "rowspan")) (option_map (λ at. SetRowSpan at.0 at.1) (position_and_count rest)) (line_setting keyword rest) (Some setting) past_colspan.1) [
       | inl rowspan ↦ worded keyword (codes "rowspan") rest setting rowspan.0 (spanned_read (codes "rowspan ") SetRowSpan Rowspan rest setting rowspan.1)
       | inr line ↦ line_setting_read keyword rest setting text line.1
     ]

@@ -18,22 +18,22 @@ worded s r is = let same : s ≡ r = cc is in ap reason_text same
 
 module _ (table : Table) where
   estimated : (e : Estimate) → (estimate_reason table e ≡ None) ↔ (estimate_end e ≡ Done)
-  estimated (OutOfTable place) = (λ is. cc is, λ is. cc is)
+  estimated (OutOfTable position) = (λ is. cc is, λ is. cc is)
   estimated TooLarge = (λ is. cc is, λ is. cc is)
   estimated (Sized found) = (λ is. refl, λ is. refl)
 
   never_bad : (e : Estimate) → ((number : ℕ) × (estimate_reason table e ≡ Some (reason.BadLine number))) ↔ (estimate_end e ≡ BadScript)
-  never_bad (OutOfTable place) = (λ is. cc is.1, λ is. cc is)
+  never_bad (OutOfTable position) = (λ is. cc is.1, λ is. cc is)
   never_bad TooLarge = (λ is. cc is.1, λ is. cc is)
   never_bad (Sized found) = (λ is. cc is.1, λ is. cc is)
 
   refusal : (e : Estimate) → ((r : Reason) × (estimate_reason table e ≡ Some r) × IsTableReason r) ↔ (estimate_end e ≡ Refused)
-  refusal (OutOfTable place) = (λ is. refl, λ is. (_, refl, tt))
+  refusal (OutOfTable position) = (λ is. refl, λ is. (_, refl, tt))
   refusal TooLarge = (λ is. refl, λ is. (reason.TooLarge, refl, tt))
   refusal (Sized found) = (λ is. cc is.1, λ is. cc is)
 
   written : (e : Estimate) (r : Reason) → estimate_reason table e ≡ Some r → estimate_text e ≡ reason_text r
-  written (OutOfTable place) r is = worded _ r is
+  written (OutOfTable position) r is = worded _ r is
   written TooLarge r is = worded _ r is
   written (Sized found) r is = cc is
 

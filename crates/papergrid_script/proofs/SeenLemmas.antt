@@ -21,7 +21,7 @@ use Rattle.papergrid_script.specs.declared.script.Script.{Script}
 use Rattle.papergrid_script.proofs.EstimateLemmas.{estimate_told, gives_also}
 use Rattle.papergrid_script.proofs.GridLemmas.{grid_told}
 
--- what is estimated of the cells that the records tell, by the configuration, is estimated of the script's table
+-- what is estimated of the cells that the records yield, by the configuration, is estimated of the script's table
 seen : {A : Type 0} (view : A → Bor (List ℕ)) (script : Script) (config : SpannedConfig) (cells : List (List A)) (rows : List (Bor (List (Bor (List ℕ))))) (columns : ℕ) (sizing : Sizing) (e : Estimate)
     → HasSettingHistory (map setting_told script.settings.items) config → map (map view) cells ≡ map (λ row. row.now) rows → rows ≡ script.rows.items → columns ≡ script.columns
     → e ≡ estimate_by sizing (spanned_grid config) (line_measure (λ cell. (view cell).now)) columns cells → e ≡ estimate_of sizing (table_seen script)

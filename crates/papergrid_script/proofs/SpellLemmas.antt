@@ -19,7 +19,7 @@ use Rattle.papergrid_values.specs.declared.position.Position.{Position}
 use Rattle.papergrid_values.specs.declared.sides.Sides.{Sides}
 use Rattle.papergrid_config.specs.declared.setting.Setting.{Setting}
 use Rattle.papergrid_config.specs.declared.setting.Setting.TheVariants.{SetPadding}
-use Rattle.papergrid_script.specs.Grammar.{Said, Nothing, Columns, Set, Row, Cell, parted_at, number_said, position_said, placed_span, entity_said, sides_of, padding_of, placed_character, keyword_setting, keyword_says, text_says, line_says}
+use Rattle.papergrid_script.specs.Grammar.{Said, Nothing, Columns, Set, Row, Cell, parted_at, number_said, position_said, position_and_count, entity_said, sides_of, padding_of, number_and_character, keyword_setting, keyword_says, text_says, line_says}
 use Rattle.papergrid_script.specs.Spelling.{IsNumber, IsPosition, IsEntity, AreSides, IsCharacter, IsSetting, Pad, Colspan, Rowspan, Border, Vline, Hline, Novline, Nohline, Means, Ended, Plain, Newline, Tab, Backslash, IsLine}
 use Rattle.papergrid_script.proofs.CharacterLemmas.{character_spelled}
 use Rattle.papergrid_script.proofs.ReadLemmas.{cell_at}
@@ -31,12 +31,12 @@ lacks c word = list_all (λ b. not (nat_eq b c)) word ≡ true
 
 -- ---- the parts around a byte
 
-place_after : (c : ℕ) (word rest : List ℕ) → lacks c word → position_or_len (λ b. nat_eq b c) (word ++ c ∷ rest) ≡ length word
-place_after c [] rest none = let here : nat_eq c c ≡ true = eq-eqb c c refl in rw here refl
-place_after c (b ∷ word) rest none =
+position_after : (c : ℕ) (word rest : List ℕ) → lacks c word → position_or_len (λ b. nat_eq b c) (word ++ c ∷ rest) ≡ length word
+position_after c [] rest none = let here : nat_eq c c ≡ true = eq-eqb c c refl in rw here refl
+position_after c (b ∷ word) rest none =
     let both = and_parts (not (nat_eq b c)) (list_all (λ x. not (nat_eq x c)) word) none in
     let other : not (nat_eq b c) ≡ true = both.0 in
-    let later : position_or_len (λ b. nat_eq b c) (word ++ c ∷ rest) ≡ length word = place_after c word rest both.1 in
+    let later : position_or_len (λ b. nat_eq b c) (word ++ c ∷ rest) ≡ length word = position_after c word rest both.1 in
     rw other (omega (arith, later))
 
 behind : (c : ℕ) (word rest : List ℕ) → drop (length word + 1) (word ++ c ∷ rest) ≡ rest
@@ -45,7 +45,7 @@ behind c (b ∷ word) rest = let next : suc (length word) + 1 ≡ suc (length wo
 
 pub parted_after : (c : ℕ) (word rest : List ℕ) → lacks c word → parted_at c (word ++ c ∷ rest) ≡ Some (word, rest)
 parted_after c word rest none =
-    let at : position_or_len (λ b. nat_eq b c) (word ++ c ∷ rest) ≡ length word = place_after c word rest none in
+    let at : position_or_len (λ b. nat_eq b c) (word ++ c ∷ rest) ≡ length word = position_after c word rest none in
     let below : nat_lt (length word) (length (word ++ c ∷ rest)) ≡ true = lt-ltb _ _ (omega (arith, length-append word (c ∷ rest))) in
     rw (at, below, take-append_seam word (c ∷ rest), behind c word rest) refl
 
@@ -65,13 +65,13 @@ digits_lack c (d ∷ digits) low h =
     let other : nat_eq d c ≡ false = grind (arith, nat_tests, p.0.0) in
     rw other (digits_lack c digits low p.1)
 
-position_spelled : (bytes : List ℕ) (place : Position) → IsPosition bytes place → position_said bytes ≡ Some place
+position_spelled : (bytes : List ℕ) (position : Position) → IsPosition bytes position → position_said bytes ≡ Some position
 unfolding position_said
-position_spelled bytes place h =
-    rw (h.4, parted_after 44 h.0 h.1 (digits_lack 44 h.0 (lit< tt) h.2.digits_alone), number_spelled h.0 place.row h.2, number_spelled h.1 place.col h.3) refl
+position_spelled bytes position h =
+    rw (h.4, parted_after 44 h.0 h.1 (digits_lack 44 h.0 (lit< tt) h.2.digits_alone), number_spelled h.0 position.row h.2, number_spelled h.1 position.col h.3) refl
 
-position_lacks : (bytes : List ℕ) (place : Position) → IsPosition bytes place → lacks 32 bytes
-position_lacks bytes place h = subst (lacks 32) (sym h.4)
+position_lacks : (bytes : List ℕ) (position : Position) → IsPosition bytes position → lacks 32 bytes
+position_lacks bytes position h = subst (lacks 32) (sym h.4)
     (list_all-append (λ b. not (nat_eq b 32)) h.0 (44 ∷ h.1) ∙ rw (digits_lack 32 h.0 (lit< tt) h.2.digits_alone) (digits_lack 32 h.1 (lit< tt) h.3.digits_alone))
 
 -- a number and a comma are no star, and no letter stands first
@@ -124,31 +124,31 @@ padding_spelled spelled rest entity sides is_entity are_sides =
 
 -- ---- spans
 
-span_spelled : (spelled digits : List ℕ) (place : Position) (n : ℕ) → IsPosition spelled place → IsNumber digits n → placed_span (spelled ++ 32 ∷ digits) ≡ Some (place, n)
-unfolding placed_span
-span_spelled spelled digits place n is_position is_number =
-    rw (parted_after 32 spelled digits (position_lacks spelled place is_position), position_spelled spelled place is_position, number_spelled digits n is_number) refl
+span_spelled : (spelled digits : List ℕ) (position : Position) (n : ℕ) → IsPosition spelled position → IsNumber digits n → position_and_count (spelled ++ 32 ∷ digits) ≡ Some (position, n)
+unfolding position_and_count
+span_spelled spelled digits position n is_position is_number =
+    rw (parted_after 32 spelled digits (position_lacks spelled position is_position), position_spelled spelled position is_position, number_spelled digits n is_number) refl
 
 -- ---- characters and lines
 
-placed_spelled : (digits x : List ℕ) (place c : ℕ) → IsNumber digits place → IsCharacter x c → placed_character (digits ++ 32 ∷ x) ≡ Some (place, c)
-unfolding placed_character
-placed_spelled digits x place c is_number is_character =
-    rw (parted_after 32 digits x (digits_lack 32 digits (lit< tt) is_number.digits_alone), number_spelled digits place is_number, character_spelled x c is_character) refl
+number_and_character_spelled : (digits x : List ℕ) (position c : ℕ) → IsNumber digits position → IsCharacter x c → number_and_character (digits ++ 32 ∷ x) ≡ Some (position, c)
+unfolding number_and_character
+number_and_character_spelled digits x position c is_number is_character =
+    rw (parted_after 32 digits x (digits_lack 32 digits (lit< tt) is_number.digits_alone), number_spelled digits position is_number, character_spelled x c is_character) refl
 
 setting_spelled : (line : List ℕ) (setting : Setting) → IsSetting line setting → text_says line ≡ Some (Set setting)
 unfolding text_says keyword_says keyword_setting
 setting_spelled _ _ (Pad spelled rest entity sides is_entity are_sides) =
     rw (parted_after 32 (codes "pad") (spelled ++ 32 ∷ rest) refl, padding_spelled spelled rest entity sides is_entity are_sides) refl
-setting_spelled _ _ (Colspan spelled digits place n is_position is_number) =
-    rw (parted_after 32 (codes "colspan") (spelled ++ 32 ∷ digits) refl, span_spelled spelled digits place n is_position is_number) refl
-setting_spelled _ _ (Rowspan spelled digits place n is_position is_number) =
-    rw (parted_after 32 (codes "rowspan") (spelled ++ 32 ∷ digits) refl, span_spelled spelled digits place n is_position is_number) refl
+setting_spelled _ _ (Colspan spelled digits position n is_position is_number) =
+    rw (parted_after 32 (codes "colspan") (spelled ++ 32 ∷ digits) refl, span_spelled spelled digits position n is_position is_number) refl
+setting_spelled _ _ (Rowspan spelled digits position n is_position is_number) =
+    rw (parted_after 32 (codes "rowspan") (spelled ++ 32 ∷ digits) refl, span_spelled spelled digits position n is_position is_number) refl
 setting_spelled _ _ (Border x c is_character) = rw (parted_after 32 (codes "border") x refl, character_spelled x c is_character) refl
 setting_spelled _ _ (Vline digits x col c is_number is_character) =
-    rw (parted_after 32 (codes "vline") (digits ++ 32 ∷ x) refl, placed_spelled digits x col c is_number is_character) refl
+    rw (parted_after 32 (codes "vline") (digits ++ 32 ∷ x) refl, number_and_character_spelled digits x col c is_number is_character) refl
 setting_spelled _ _ (Hline digits x row c is_number is_character) =
-    rw (parted_after 32 (codes "hline") (digits ++ 32 ∷ x) refl, placed_spelled digits x row c is_number is_character) refl
+    rw (parted_after 32 (codes "hline") (digits ++ 32 ∷ x) refl, number_and_character_spelled digits x row c is_number is_character) refl
 setting_spelled _ _ (Novline digits col is_number) = rw (parted_after 32 (codes "novline") digits refl, number_spelled digits col is_number) refl
 setting_spelled _ _ (Nohline digits row is_number) = rw (parted_after 32 (codes "nohline") digits refl, number_spelled digits row is_number) refl
 

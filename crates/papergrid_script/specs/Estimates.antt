@@ -6,7 +6,7 @@ use Rattle.papergrid_values.specs.declared.position.Position.{Position}
 use Rattle.papergrid_values.specs.declared.direction.Direction.{Direction}
 use Rattle.papergrid_values.specs.declared.direction.Direction.TheVariants.{Columns, Rows}
 use Rattle.papergrid_tracks.specs.Problem.{Problem, total_of}
-use Rattle.papergrid_tracks.specs.Ranges.{place_of}
+use Rattle.papergrid_tracks.specs.Ranges.{position_of}
 use Rattle.papergrid_tracks.specs.Sizes.{sizes_of}
 use Rattle.papergrid_tracks.specs.Least.{least_of}
 use Rattle.papergrid_tracks.specs.CriticalPath.{critical_path}
@@ -32,13 +32,13 @@ unless_large found = if nat_le (2 ^ 64) found.columns.total || nat_le (2 ^ 64) f
 
 -- out of the table at a position, where there is one, else what was found
 abbrev pub unless_out : Option Position → Estimate → Estimate
-unless_out (Some place) sized = OutOfTable place
+unless_out (Some position) sized = OutOfTable position
 unless_out None sized = sized
 
 -- what is found along a direction: by shares, or of the least total
 abbrev pub solution_by : Sizing → Problem → Solution
 solution_by ByShares p = record { sizes = sizes_of p; total = total_of p (sizes_of p); certificate = certificate_by_shares p }
-solution_by Least p = record { sizes = least_of p; total = total_of p (least_of p); certificate = Some (map place_of (critical_path p)) }
+solution_by Least p = record { sizes = least_of p; total = total_of p (least_of p); certificate = Some (map position_of (critical_path p)) }
 
 -- of rows of cells that are measured so, by what is read of settings
 unfoldable pub estimate_by : {C : Type 0} → Sizing → Grid → (C → ℕ × ℕ) → ℕ → List (List C) → Estimate
@@ -46,6 +46,6 @@ estimate_by sizing grid measure columns rows =
     let along = λ (direction : Direction). solution_by sizing (problem_of grid measure columns rows direction) in
     unless_out (first_out_of_table grid measure columns rows) (unless_large (record { columns = along Columns; rows = along Rows }))
 
--- of the table that a script tells
+-- of the table that a script describes
 abbrev pub estimate_of : Sizing → Table → Estimate
 estimate_of sizing table = estimate_by sizing (grid_of table.settings) text_measure table.columns table.rows

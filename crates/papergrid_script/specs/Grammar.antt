@@ -75,7 +75,7 @@ entity_said spelled =
     if bytes_eq spelled (codes "*") then Some entities.Global
     else if starts_with nat_eq spelled (codes "c") then option_map entities.Column (number_said (drop 1 spelled))
     else if starts_with nat_eq spelled (codes "r") then option_map entities.Row (number_said (drop 1 spelled))
-    else option_map (λ (place : Position). entities.Cell place.row place.col) (position_said spelled)
+    else option_map (λ (position : Position). entities.Cell position.row position.col) (position_said spelled)
 
 -- ---- paddings
 
@@ -98,14 +98,14 @@ padding_of spelled = option_map (λ p. SetPadding p.0 p.1) (pair_at space entity
 -- ---- spans
 
 -- a position, and a number of columns or rows after it and a space
-unfoldable pub placed_span : List ℕ → Option (Position × ℕ)
-placed_span spelled = pair_at space position_said number_said spelled
+unfoldable pub position_and_count : List ℕ → Option (Position × ℕ)
+position_and_count spelled = pair_at space position_said number_said spelled
 
 -- ---- borders and lines
 
 -- a number, and one character after it and a space
-unfoldable pub placed_character : List ℕ → Option (ℕ × ℕ)
-placed_character spelled = pair_at space number_said character_of spelled
+unfoldable pub number_and_character : List ℕ → Option (ℕ × ℕ)
+number_and_character spelled = pair_at space number_said character_of spelled
 
 -- lines of one character, whose crossings and ends are not set
 abbrev pub vertical_main : ℕ → VerticalLine ℕ
@@ -121,11 +121,11 @@ horizontal_main c = record { main = Some c; intersection = None; left = None; ri
 unfoldable pub keyword_setting : List ℕ → List ℕ → Option Setting
 keyword_setting keyword rest =
     if bytes_eq keyword (codes "pad") then padding_of rest
-    else if bytes_eq keyword (codes "colspan") then option_map (λ at. SetColumnSpan at.0 at.1) (placed_span rest)
-    else if bytes_eq keyword (codes "rowspan") then option_map (λ at. SetRowSpan at.0 at.1) (placed_span rest)
+    else if bytes_eq keyword (codes "colspan") then option_map (λ at. SetColumnSpan at.0 at.1) (position_and_count rest)
+    else if bytes_eq keyword (codes "rowspan") then option_map (λ at. SetRowSpan at.0 at.1) (position_and_count rest)
     else if bytes_eq keyword (codes "border") then option_map (λ c. SetBorders (frame_with (Some c))) (character_of rest)
-    else if bytes_eq keyword (codes "vline") then option_map (λ at. InsertVerticalLine at.0 (vertical_main at.1)) (placed_character rest)
-    else if bytes_eq keyword (codes "hline") then option_map (λ at. InsertHorizontalLine at.0 (horizontal_main at.1)) (placed_character rest)
+    else if bytes_eq keyword (codes "vline") then option_map (λ at. InsertVerticalLine at.0 (vertical_main at.1)) (number_and_character rest)
+    else if bytes_eq keyword (codes "hline") then option_map (λ at. InsertHorizontalLine at.0 (horizontal_main at.1)) (number_and_character rest)
     else if bytes_eq keyword (codes "novline") then option_map (λ col. RemoveVerticalLine col 0) (number_said rest)
     else if bytes_eq keyword (codes "nohline") then option_map (λ row. RemoveHorizontalLine row 0) (number_said rest)
     else None

@@ -13,7 +13,7 @@ pub mod Seen
 pub mod Settings
 pub mod Spelling
 pub mod Statuses
-pub mod Tells
+pub mod Describes
 pub mod Texts
 pub mod Totals
 pub mod Writing

@@ -20,13 +20,13 @@ abbrev pub number_line : List ℕ → List ℕ → List ℕ
 number_line word numbers = word ++ spaced_numbers numbers ++ newline ∷ []
 
 -- a space, a row, a comma and a column for each
-abbrev pub spaced_places : List Position → List ℕ
-spaced_places places = flat_map (λ place. space ∷ (decimal place.row ++ (comma ∷ decimal place.col))) places
+abbrev pub spaced_positions : List Position → List ℕ
+spaced_positions positions = flat_map (λ position. space ∷ (decimal position.row ++ (comma ∷ decimal position.col))) positions
 
 -- the cells that certify, by their positions, or that there are none such
 abbrev pub certificate_line : List ℕ → Option (List Position) → List ℕ
 certificate_line word None = word ++ codes " none" ++ newline ∷ []
-certificate_line word (Some places) = word ++ spaced_places places ++ newline ∷ []
+certificate_line word (Some positions) = word ++ spaced_positions positions ++ newline ∷ []
 
 -- the lines that name the cells that certify sizes
 abbrev pub certificates_text : PerDirection Solution → List ℕ
@@ -36,7 +36,7 @@ certificates_text found =
 
 -- the lines that are written of an estimate
 abbrev pub estimate_text : Estimate → List ℕ
-estimate_text (OutOfTable place) = codes "refused: out of table at " ++ (decimal place.row ++ (comma ∷ (decimal place.col ++ newline ∷ [])))
+estimate_text (OutOfTable position) = codes "refused: out of table at " ++ (decimal position.row ++ (comma ∷ (decimal position.col ++ newline ∷ [])))
 estimate_text TooLarge = codes "refused: too large" ++ newline ∷ []
 estimate_text (Sized found) =
     number_line (codes "widths") found.columns.sizes ++ number_line (codes "heights") found.rows.sizes
@@ -48,9 +48,19 @@ abbrev pub script_text : Sizing → Result Table ℕ → List ℕ
 script_text sizing (Err number) = codes "bad script at line " ++ decimal number ++ newline ∷ []
 script_text sizing (Ok table) = estimate_text (estimate_of sizing table)
 
+-- what is found, if an estimate has sizes
+abbrev pub estimate_sizes : Estimate → Option (PerDirection Solution)
+estimate_sizes (Sized found) = Some found
+estimate_sizes estimate = None
+
+-- of the table of a script
+abbrev pub script_sizes : Sizing → Result Table ℕ → Option (PerDirection Solution)
+script_sizes sizing (Err number) = None
+script_sizes sizing (Ok table) = estimate_sizes (estimate_of sizing table)
+
 -- how a run ends that writes an estimate
 abbrev pub estimate_end : Estimate → RunEnd
-estimate_end (OutOfTable place) = Refused
+estimate_end (OutOfTable position) = Refused
 estimate_end TooLarge = Refused
 estimate_end (Sized found) = Done
 
@@ -66,3 +76,7 @@ output_by sizing input = script_text sizing (table_of input)
 -- how its run ends
 unfoldable pub end_by : Sizing → List ℕ → RunEnd
 end_by sizing input = script_end sizing (table_of input)
+
+-- what is found of the table of a script, if it is a good one and its table has sizes
+unfoldable pub sizes_by : Sizing → List ℕ → Option (PerDirection Solution)
+sizes_by sizing input = script_sizes sizing (table_of input)

@@ -13,9 +13,9 @@ use Rattle.papergrid_script.specs.Texts.{newline}
 
 -- for the first visible cell out of the table, its spans and the shape of the table, rows first
 abbrev pub estimate_reason : Table → Estimate → Option Reason
-estimate_reason table (OutOfTable place) =
+estimate_reason table (OutOfTable position) =
     let span = span_along (spans_of table.settings) in
-    Some (reason.OutOfTable place (span Rows place, span Columns place) (length table.rows, table.columns))
+    Some (reason.OutOfTable position (span Rows position, span Columns position) (length table.rows, table.columns))
 estimate_reason table TooLarge = Some reason.TooLarge
 estimate_reason table (Sized found) = None
 
@@ -31,11 +31,11 @@ reason_by sizing input = script_reason sizing (table_of input)
 -- the line that a run writes of a reason
 abbrev pub reason_text : Reason → List ℕ
 reason_text (reason.BadLine number) = codes "bad script at line " ++ decimal number ++ newline ∷ []
-reason_text (reason.OutOfTable place spans shape) = estimate_text (OutOfTable place)
+reason_text (reason.OutOfTable position spans shape) = estimate_text (OutOfTable position)
 reason_text reason.TooLarge = estimate_text TooLarge
 
 -- a reason why a table is refused, and no bad line
 abbrev pub IsTableReason : Reason → Type 0
 IsTableReason (reason.BadLine number) = ⊥
-IsTableReason (reason.OutOfTable place spans shape) = ⊤
+IsTableReason (reason.OutOfTable position spans shape) = ⊤
 IsTableReason reason.TooLarge = ⊤

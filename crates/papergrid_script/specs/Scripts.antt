@@ -37,6 +37,6 @@ table_after number table [] = Ok table
 table_after number table (line ∷ lines) =
     or_bad number (option_and_then (table_with_line table) (line_says line)) (λ next. table_after (number + 1) next lines)
 
--- the table that a script tells, or the number of its first bad line
+-- the table that a script describes, or the number of its first bad line
 unfoldable pub table_of : List ℕ → Result Table ℕ
 table_of input = table_after 1 empty_table (script_lines input)

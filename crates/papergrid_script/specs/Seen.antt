@@ -19,7 +19,7 @@ rows_seen rows = map (λ row. row_texts_of row.now) rows
 abbrev pub table_seen : Script → Table
 table_seen script = record { columns = script.columns; settings = map setting_told script.settings.items; rows = rows_seen script.rows.items }
 
--- the table that a script tells, or a bad line; out of memory says nothing
+-- the table that a script describes, or a bad line; out of memory says nothing
 abbrev pub GivesTable : Result Script ScriptError → Result Table ℕ → Type 0
 GivesTable (Ok script) told = told ≡ Ok (table_seen script)
 GivesTable (Err (script_errors.Bad number)) told = told ≡ Err number

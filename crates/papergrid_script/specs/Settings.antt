@@ -17,8 +17,8 @@ spaced_sides sides = record { top = spaces sides.top; bottom = spaces sides.bott
 -- the setting of a configuration that a setting of a script is
 abbrev pub setting_told : ScriptSetting → Setting
 setting_told (Padding entity sides) = SetPadding entity (spaced_sides sides)
-setting_told (ColumnSpan place count) = SetColumnSpan place count
-setting_told (RowSpan place count) = SetRowSpan place count
+setting_told (ColumnSpan position count) = SetColumnSpan position count
+setting_told (RowSpan position count) = SetRowSpan position count
 setting_told (Border c) = SetBorders (frame_with (Some c))
 setting_told (VerticalLine col c) = InsertVerticalLine col (vertical_main c)
 setting_told (HorizontalLine row c) = InsertHorizontalLine row (horizontal_main c)

@@ -24,7 +24,7 @@ pub record IsNumber (digits : List ℕ) (n : ℕ) : Type 0 where
 
 -- a row and a column: two numbers and a comma between them
 abbrev pub IsPosition : List ℕ → Position → Type 0
-IsPosition bytes place = (row : List ℕ) × (col : List ℕ) × IsNumber row place.row × IsNumber col place.col × (bytes ≡ row ++ comma ∷ col)
+IsPosition bytes position = (row : List ℕ) × (col : List ℕ) × IsNumber row position.row × IsNumber col position.col × (bytes ≡ row ++ comma ∷ col)
 
 -- a star; a c or an r and a number; a row and a column
 abbrev pub IsEntity : List ℕ → Entity → Type 0
@@ -55,10 +55,10 @@ pub record IsCharacter (bytes : List ℕ) (c : ℕ) : Type 0 where
 pub data IsSetting : List ℕ → Setting → Type 0 where
   Pad : (spelled rest : List ℕ) (entity : Entity) (sides : Sides Indent) → IsEntity spelled entity → AreSides rest sides
       → IsSetting (codes "pad " ++ (spelled ++ space ∷ rest)) (SetPadding entity sides)
-  Colspan : (spelled digits : List ℕ) (place : Position) (n : ℕ) → IsPosition spelled place → IsNumber digits n
-      → IsSetting (codes "colspan " ++ (spelled ++ space ∷ digits)) (SetColumnSpan place n)
-  Rowspan : (spelled digits : List ℕ) (place : Position) (n : ℕ) → IsPosition spelled place → IsNumber digits n
-      → IsSetting (codes "rowspan " ++ (spelled ++ space ∷ digits)) (SetRowSpan place n)
+  Colspan : (spelled digits : List ℕ) (position : Position) (n : ℕ) → IsPosition spelled position → IsNumber digits n
+      → IsSetting (codes "colspan " ++ (spelled ++ space ∷ digits)) (SetColumnSpan position n)
+  Rowspan : (spelled digits : List ℕ) (position : Position) (n : ℕ) → IsPosition spelled position → IsNumber digits n
+      → IsSetting (codes "rowspan " ++ (spelled ++ space ∷ digits)) (SetRowSpan position n)
   Border : (x : List ℕ) (c : ℕ) → IsCharacter x c → IsSetting (codes "border " ++ x) (SetBorders (frame_with (Some c)))
   Vline : (digits x : List ℕ) (col c : ℕ) → IsNumber digits col → IsCharacter x c
       → IsSetting (codes "vline " ++ (digits ++ space ∷ x)) (InsertVerticalLine col (vertical_main c))

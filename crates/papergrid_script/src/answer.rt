@@ -1,12 +1,11 @@
 //! What an input comes to: how its run ends, and what is written.
 
-ghost use Rattle.std.specs.Prelude.{◌≡◌, ◌≢◌, IfOk, MatchOption};
+ghost use Rattle.std.specs.Prelude.{◌≡◌, IfOk, option_map};
 ghost use Rattle.papergrid_layout.specs.Certificates.{solutions_of};
-ghost use Rattle.papergrid_script.specs.Estimates.{Sized, estimate_of};
-ghost use Rattle.papergrid_script.specs.Outputs.{end_by, estimate_end, estimate_text, output_by};
+ghost use Rattle.papergrid_script.specs.Estimates.{estimate_of};
+ghost use Rattle.papergrid_script.specs.Outputs.{end_by, estimate_end, estimate_text, output_by, sizes_by};
 ghost use Rattle.papergrid_script.specs.Seen.{table_seen};
 ghost use Rattle.papergrid_script.specs.ForProofs.Sized.{GivesEstimate};
-ghost use Rattle.papergrid_script.specs.declared.answer.RunEnd.TheVariants.{Done};
 
 use crate::estimate::estimate;
 use crate::output::{bad_script_text, out_of_table_text, sizes_text, too_large_text};
@@ -43,16 +42,19 @@ pub fn answer(alloc: Global, sizing: Sizing, input: &[u8]) -> Result<(RunEnd, Ve
     }
 }
 
-/// The sizes of the table that a script tells, and the cells that certify them. There are none only where the run of the script does
-/// not end as `Done`.
-#[tactic(auto, unfolding(crate::specs::Outputs::output_by, crate::specs::Outputs::end_by))]
+/// The sizes of the table that a script describes, in columns of a terminal and in lines, their totals, and the cells that certify
+/// them: none of a bad script, nor of a table without sizes.
+///
+/// # Errors
+///
+/// `AllocError` where a growth is refused.
+#[tactic(auto, unfolding(crate::specs::Outputs::sizes_by))]
 pub fn certify_script(
     alloc: Global,
     sizing: Sizing,
     input: &[u8],
 ) -> Result<Option<PerDirection<Solved>>, AllocError>
-    ensures { IfOk result (λ found. MatchOption found (end_by sizing input.now ≢ Done)
-        (λ both. output_by sizing input.now ≡ estimate_text (Sized (solutions_of both)))) }
+    ensures { IfOk result (λ found. option_map solutions_of found ≡ sizes_by sizing input.now) }
 {
     let texts = Bump::new(alloc);
     match read_script(alloc, &texts, input) {
@@ -88,7 +90,7 @@ fn table_answer(
     }
 }
 
-/// The sizes of the table that a script tells, with totals and certificates.
+/// The sizes of the table that a script describes, with totals and certificates.
 fn table_sizes(
     alloc: Global,
     sizing: Sizing,

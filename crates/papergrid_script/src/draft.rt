@@ -1,4 +1,4 @@
-//! What the lines of a script have told so far.
+//! What the lines of a script have said so far.
 
 ghost use Rattle.std.specs.Prelude.{◌≡◌, IfOk, OnOk, Some};
 ghost use Rattle.papergrid_script.specs.Grammar.{Row, Cell};
@@ -11,7 +11,7 @@ use crate::script_setting::ScriptSetting;
 use bumpalo::Bump;
 use std::alloc::{AllocError, Global};
 
-/// What the lines of a script have told so far. The cells of the last row are gathered apart, and moved
+/// What the lines of a script have said so far. The cells of the last row are gathered apart, and moved
 /// to the arena at its end, so that no row has a block of memory of its own.
 pub struct Draft<'a> {
     /// The number of columns.
@@ -40,7 +40,7 @@ impl Drop for Draft<'_> {
 }
 
 impl<'a> Draft<'a> {
-    /// What no lines tell.
+    /// What no lines say.
     pub fn new(alloc: Global, arena: &'a Bump) -> Draft<'a>
         ensures { table_so_far result ≡ empty_table }
     {
@@ -75,7 +75,7 @@ impl<'a> Draft<'a> {
         Ok(true)
     }
 
-    /// The script that all lines have told.
+    /// The script of all lines.
     pub fn finish(self) -> Result<Script<'a>, AllocError>
         ensures { IfOk result (λ script. table_seen script ≡ table_so_far self.entry) }
     {

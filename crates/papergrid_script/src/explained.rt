@@ -47,7 +47,7 @@ pub fn explain(alloc: Global, sizing: Sizing, input: &[u8]) -> Result<Option<Rea
     }
 }
 
-/// Why the table that a script tells has no sizes.
+/// Why the table that a script describes has no sizes.
 fn table_reason(
     alloc: Global,
     sizing: Sizing,

@@ -23,7 +23,7 @@ ghost use Rattle.papergrid_script.specs.Rows.{WorkedScripts};
 ghost use Rattle.papergrid_script.specs.ScriptLines.{AreScriptLines};
 ghost use Rattle.papergrid_script.specs.Scripts.{Table, table_of};
 ghost use Rattle.papergrid_script.specs.Spelling.{IsEntity, IsLine, IsNumber};
-ghost use Rattle.papergrid_script.specs.Tells.{IsBad, IsFirstBad, Tells};
+ghost use Rattle.papergrid_script.specs.Describes.{IsBad, IsFirstBad, Describes};
 ghost use Rattle.papergrid_script.specs.Totals.{AreSized, IsTableTooLarge};
 ghost use Rattle.papergrid_script.specs.declared.answer.RunEnd.{RunEnd};
 ghost use Rattle.papergrid_script.specs.declared.explained.Reason.{Reason};
@@ -33,7 +33,7 @@ pub fn worked_rows()
     ensures { WorkedScripts }
 {}
 
-/// What an estimate reads of a configuration that settings tell, which is which positions are visible and the spans,
+/// What an estimate reads of a configuration that settings make, which is which positions are visible and the spans,
 /// the paddings and the lines, is what the settings decide.
 pub fn grid_by_settings()
     ensures { (settings : List Setting) (config : SpannedConfig) →
@@ -50,10 +50,10 @@ pub fn grid_by_settings()
 /// that certify that the sizes are least. Of least sizes all this holds whatever ranges cross, and
 /// there always is a certificate; so they are too large only where those by shares are.
 pub fn estimate_by_grid()
-    ensures out { (sizing : Sizing) (table : Table) (place : Position) →
-        (estimate_of sizing table ≡ OutOfTable place)
+    ensures out { (sizing : Sizing) (table : Table) (position : Position) →
+        (estimate_of sizing table ≡ OutOfTable position)
         ↔ (first_out_of_table (grid_of table.settings) text_measure table.columns table.rows
-        ≡ Some place) }
+        ≡ Some position) }
     ensures too_large { (sizing : Sizing) (table : Table) → estimate_of sizing table ≡ TooLarge →
         IsTableTooLarge sizing table }
     ensures sized { (sizing : Sizing) (table : Table) (found : PerDirection Solution) →
@@ -107,10 +107,10 @@ pub fn script_lines_form()
         AreScriptLines input lines → lines ≡ script_lines input }
 {}
 
-/// What a script tells, and its first bad line, by all of its lines at once.
+/// What a script says, and its first bad line, by all of its lines at once.
 pub fn script_by_lines()
     ensures told { (input : List ℕ) (table : Table) →
-        table_of input ≡ Ok table → Tells (script_lines input) table }
+        table_of input ≡ Ok table → Describes (script_lines input) table }
     ensures none_bad { (input : List ℕ) (table : Table) →
         table_of input ≡ Ok table → (i : ℕ) → ¬ (IsBad (script_lines input) i) }
     ensures named { (input : List ℕ) (n : ℕ) →
@@ -119,7 +119,7 @@ pub fn script_by_lines()
         IsFirstBad (script_lines input) i → table_of input ≡ Err (i + 1) }
 {}
 
-/// The settings that a script tells are in range: each may be applied.
+/// The settings that a script has are in range: each may be applied.
 pub fn script_settings_in_range()
     ensures { (input : List ℕ) (table : Table) →
         table_of input ≡ Ok table → All (λ setting. is_in_range setting ≡ true) table.settings }

@@ -1,4 +1,4 @@
-//! Scripts that tell a table: their lines, and the settings and the rows that they tell. The sizes of that table, and what is
+//! Scripts that describe a table: their lines, and their settings and rows. The sizes of that table, and what is
 //! written of them. And what the programs share.
 #![tactic(auto)]
 

@@ -2,9 +2,9 @@
 
 ghost use Rattle.std.specs.Prelude.{◌≡◌, ◌∷◌, ◌++◌, [], IfOk, OnOk, codes, decimal};
 ghost use Rattle.papergrid_script.specs.Estimates.{OutOfTable, Sized, TooLarge};
-ghost use Rattle.papergrid_script.specs.Outputs.{certificate_line, certificates_text, estimate_text, number_line, spaced_places};
+ghost use Rattle.papergrid_script.specs.Outputs.{certificate_line, certificates_text, estimate_text, number_line, spaced_positions};
 ghost use Rattle.papergrid_layout.specs.Certificates.{solutions_of};
-ghost use Rattle.papergrid_tracks.specs.Sizings.{places_of};
+ghost use Rattle.papergrid_tracks.specs.Sizings.{positions_of};
 
 use itoa::Buffer;
 use papergrid_layout::Solved;
@@ -65,28 +65,28 @@ fn push_certificate(
     certificate: &Option<Vec<Position>>,
 ) -> Result<(), AllocError>
     ensures { OnOk result (text.new.items ≡ text.old.items ++ certificate_line word.now
-        (places_of certificate.now)) }
+        (positions_of certificate.now)) }
 {
     text.extend_from_slice(word)?;
     match certificate {
         None => text.extend_from_slice(b" none")?,
-        Some(places) => push_places(text, places.as_slice())?,
+        Some(positions) => push_positions(text, positions.as_slice())?,
     }
     text.push(b'\n')?;
     Ok(())
 }
 
 /// Adds a space, the row, a comma and the column for each.
-fn push_places(text: &mut Vec<u8>, places: &[Position]) -> Result<(), AllocError>
-    ensures { OnOk result (text.new.items ≡ text.old.items ++ spaced_places places.now) }
+fn push_positions(text: &mut Vec<u8>, positions: &[Position]) -> Result<(), AllocError>
+    ensures { OnOk result (text.new.items ≡ text.old.items ++ spaced_positions positions.now) }
 {
     // Each takes four bytes at least.
-    text.reserve(4 * places.len())?;
-    for place in places {
+    text.reserve(4 * positions.len())?;
+    for position in positions {
         text.push(b' ')?;
-        push_number(text, place.row)?;
+        push_number(text, position.row)?;
         text.push(b',')?;
-        push_number(text, place.col)?;
+        push_number(text, position.col)?;
     }
     Ok(())
 }

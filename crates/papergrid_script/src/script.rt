@@ -18,7 +18,7 @@ use papergrid_text::string::count_lines;
 use simdutf8::compat::from_utf8;
 use std::alloc::{AllocError, Global};
 
-/// What a script tells. Texts are lent from the input, those with escapes and the rows from the arena.
+/// What a script says. Texts are lent from the input, those with escapes and the rows from the arena.
 #[derive(Drop)]
 pub struct Script<'a> {
     /// The number of columns.

@@ -39,8 +39,8 @@ impl ScriptSetting {
     {
         match self {
             ScriptSetting::Padding(entity, sides) => config.set_padding(entity, spaced(sides))?,
-            ScriptSetting::ColumnSpan(place, count) => config.set_column_span(place, count)?,
-            ScriptSetting::RowSpan(place, count) => config.set_row_span(place, count)?,
+            ScriptSetting::ColumnSpan(position, count) => config.set_column_span(position, count)?,
+            ScriptSetting::RowSpan(position, count) => config.set_row_span(position, count)?,
             ScriptSetting::Border(c) => config.set_borders(Borders::filled(c)),
             ScriptSetting::VerticalLine(col, c) => {
                 let line = VerticalLine::new(Some(c), None, None, None);
@@ -70,7 +70,7 @@ fn spaced(sides: Sides<usize>) -> Sides<Indent>
     )
 }
 
-/// The configuration that the settings tell. Errors: `AllocError` where an allocation fails;
+/// The configuration that the settings make. Errors: `AllocError` where an allocation fails;
 /// settings that do not allocate (borders, removals, paddings of the whole table, spans below 2)
 /// are never refused.
 // It is made where its caller keeps it: it is large, and is not moved.

@@ -2,7 +2,7 @@
 
 ghost use Rattle.std.specs.Prelude.{◌≡◌, option_map};
 ghost use Rattle.papergrid_script.specs.Settings.{setting_told, spaced_sides};
-ghost use Rattle.papergrid_script.specs.Grammar.{entity_said, padding_of, placed_character, placed_span, position_said, keyword_setting, sides_of};
+ghost use Rattle.papergrid_script.specs.Grammar.{entity_said, padding_of, number_and_character, position_and_count, position_said, keyword_setting, sides_of};
 
 use crate::cut::split_at_byte;
 use crate::number::number;
@@ -17,15 +17,15 @@ pub fn line_setting(keyword: &str, rest: &str) -> Option<ScriptSetting>
 {
     match keyword {
         "pad" => padding(rest),
-        "colspan" => placed_span(rest).map(|(position, span)| ScriptSetting::ColumnSpan(
+        "colspan" => position_and_count(rest).map(|(position, span)| ScriptSetting::ColumnSpan(
             position, span,
         )),
-        "rowspan" => placed_span(rest).map(|(position, span)| ScriptSetting::RowSpan(
+        "rowspan" => position_and_count(rest).map(|(position, span)| ScriptSetting::RowSpan(
             position, span,
         )),
         "border" => single_character(rest).map(ScriptSetting::Border),
-        "vline" => placed_character(rest).map(|(col, c)| ScriptSetting::VerticalLine(col, c)),
-        "hline" => placed_character(rest).map(|(row, c)| ScriptSetting::HorizontalLine(row, c)),
+        "vline" => number_and_character(rest).map(|(col, c)| ScriptSetting::VerticalLine(col, c)),
+        "hline" => number_and_character(rest).map(|(row, c)| ScriptSetting::HorizontalLine(row, c)),
         "novline" => number(rest).map(ScriptSetting::NoVerticalLine),
         "nohline" => number(rest).map(ScriptSetting::NoHorizontalLine),
         _ => None,
@@ -33,12 +33,12 @@ pub fn line_setting(keyword: &str, rest: &str) -> Option<ScriptSetting>
 }
 
 /// A number, and one character after it and a space.
-#[tactic(auto, unfolding(crate::specs::Grammar::placed_character))]
-fn placed_character(spelled: &str) -> Option<(usize, char)>
-    ensures { result ≡ placed_character spelled.now }
+#[tactic(auto, unfolding(crate::specs::Grammar::number_and_character))]
+fn number_and_character(spelled: &str) -> Option<(usize, char)>
+    ensures { result ≡ number_and_character spelled.now }
 {
-    let (place, rest) = split_at_byte(spelled, b' ')?;
-    Some((number(place)?, single_character(rest)?))
+    let (digits, rest) = split_at_byte(spelled, b' ')?;
+    Some((number(digits)?, single_character(rest)?))
 }
 
 /// An entity, and four numbers of spaces after it.
@@ -75,8 +75,8 @@ fn entity(spelled: &str) -> Option<Entity>
     if let Some(digits) = spelled.strip_prefix("r") {
         return number(digits).map(Entity::Row);
     }
-    let place = position(spelled)?;
-    Some(Entity::Cell(place.row, place.col))
+    let position = position(spelled)?;
+    Some(Entity::Cell(position.row, position.col))
 }
 
 /// The position at a row and a column with a comma between them.
@@ -89,10 +89,10 @@ pub fn position(spelled: &str) -> Option<Position>
 }
 
 /// A position, and a number after it and a space.
-#[tactic(auto, unfolding(crate::specs::Grammar::placed_span))]
-fn placed_span(spelled: &str) -> Option<(Position, usize)>
-    ensures { result ≡ placed_span spelled.now }
+#[tactic(auto, unfolding(crate::specs::Grammar::position_and_count))]
+fn position_and_count(spelled: &str) -> Option<(Position, usize)>
+    ensures { result ≡ position_and_count spelled.now }
 {
-    let (place, count) = split_at_byte(spelled, b' ')?;
-    Some((position(place)?, number(count)?))
+    let (cell, count) = split_at_byte(spelled, b' ')?;
+    Some((position(cell)?, number(count)?))
 }

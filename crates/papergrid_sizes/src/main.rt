@@ -25,7 +25,7 @@ const TAKES: &str = "papergrid_sizes takes --least, --total and one FILE, or --h
 const OPTIONS: [&str; 4] = ["--least", "--total", "--help", "--version"];
 
 /// Ends with status 0 where the sizes were written, 1 where the table has none, 2 where the script has a
-/// bad line or an argument is not taken, and 3 at a fault. What went wrong is told on standard error.
+/// bad line or an argument is not taken, and 3 at a fault. What went wrong is written to standard error.
 fn main(rt: HostRuntime) -> ExitCode {
     let mut words = match env::args(&rt) {
         Ok(words) => words,
@@ -68,7 +68,7 @@ fn answered_from<R: Read + Drop>(
     status(rt, name, end, output.is_closed())
 }
 
-/// Writes the sizes of the script that is read, keeps the script, and tells how that ended.
+/// Writes the sizes of the script that is read, keeps the script, and answers how that ended.
 fn sizes<R: Read + Drop, W: Write + Drop>(
     rt: &HostRuntime,
     wanted: Wanted,

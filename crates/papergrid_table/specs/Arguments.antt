@@ -43,10 +43,10 @@ use Rattle.papergrid_table.specs.declared.options.Flag.TheVariants as flags
 use Rattle.papergrid_table.specs.declared.options.Valued.{Valued}
 use Rattle.papergrid_table.specs.declared.options.Valued.TheVariants as valueds
 
--- ---- what options tell
+-- ---- what options say
 
 -- each part as the last option of it tells; spans, and alignments of columns, as all of them do
-pub record OptionsTold : Type 0 where
+pub record GivenOptions : Type 0 where
   pub kind : Option Kind
   pub delimiter : Option ℕ
   pub style : Style
@@ -73,8 +73,8 @@ pub record OptionsTold : Type 0 where
   pub is_of_fields : Bool
 
 -- what no option tells
-abbrev pub nothing_told : OptionsTold
-nothing_told = record {
+abbrev pub no_options : GivenOptions
+no_options = record {
   kind = None;
   delimiter = None;
   style = Rounded;
@@ -101,7 +101,7 @@ nothing_told = record {
 }
 
 -- the same with an option more that has no value
-abbrev pub switched : Flag → OptionsTold → OptionsTold
+abbrev pub switched : Flag → GivenOptions → GivenOptions
 switched (flags.Kind kind) told = record told { kind = Some kind }
 switched (flags.Head has_head) told = record told { has_head = has_head }
 switched flags.Hide told = record told { hides = true }
@@ -118,12 +118,12 @@ abbrev pub width_told : List ℕ → Option ℕ
 width_told value = option_and_then (λ width. if nat_le 1 width && nat_le width 1000 then Some width else None) (number_said value)
 
 -- an alignment of all cells, or of some columns
-abbrev pub aligned : List ℕ → Option Alignment → OptionsTold → Option OptionsTold
+abbrev pub aligned : List ℕ → Option Alignment → GivenOptions → Option GivenOptions
 aligned value (Some alignment) told = Some (record told { alignment = alignment })
 aligned value None told = option_map (λ columns. record told { columns = told.columns ++ columns ∷ [] }) (columns_aligned value)
 
 -- the same with an option more that has this value; nothing where the value has another form
-abbrev pub valued_told : Valued → List ℕ → OptionsTold → Option OptionsTold
+abbrev pub valued_told : Valued → List ℕ → GivenOptions → Option GivenOptions
 valued_told valueds.Delimiter value told = option_map (λ byte. record told { delimiter = Some byte }) (delimiter_told value)
 valued_told valueds.Style value told = option_map (λ style. record told { style = style }) (style_named value)
 valued_told valueds.Align value told = aligned value (alignment_named value) told
@@ -143,25 +143,25 @@ pub record WordsSaid : Type 0 where
   pub takes_options : Bool
   pub asked : Option programs.Request
   pub waits : Option Valued
-  pub told : OptionsTold
+  pub told : GivenOptions
 
 -- no word yet
 abbrev pub unsaid : WordsSaid
-unsaid = record { takes_options = true; asked = None; waits = None; told = nothing_told }
+unsaid = record { takes_options = true; asked = None; waits = None; told = no_options }
 
 -- a value of another form is refused
-abbrev pub value_taken : Valued → List ℕ → OptionsTold → Result OptionsTold (Option Unexpected)
+abbrev pub value_taken : Valued → List ℕ → GivenOptions → Result GivenOptions (Option Unexpected)
 value_taken valued value told = ok_or (valued_told valued value told) None
 
--- what an option tells by itself, or by its value in the same word. Else the next word is the value
-abbrev pub option_taken : Choice → Option (List ℕ) → OptionsTold → Result (Option Valued × OptionsTold) (Option Unexpected)
+-- what an option says by itself, or by its value in the same word. Else the next word is the value
+abbrev pub option_taken : Choice → Option (List ℕ) → GivenOptions → Result (Option Valued × GivenOptions) (Option Unexpected)
 option_taken (choices.Flag flag) None told = Ok (None, switched flag told)
 option_taken (choices.Flag flag) (Some value) told = Err None
 option_taken (choices.Valued valued) None told = Ok (Some valued, told)
 option_taken (choices.Valued valued) (Some value) told = result_map_both (λ told. (None, told)) (λ e. e) (value_taken valued value told)
 
 -- told of an option that may be for CSV and TSV alone
-abbrev pub of_option : Known → OptionsTold → OptionsTold
+abbrev pub of_option : Known → GivenOptions → GivenOptions
 of_option option told = record told { is_of_fields = told.is_of_fields || option.is_of_fields }
 
 -- with a word that is no option of a table
@@ -199,38 +199,38 @@ kind_of_file (OfFile path) =
 kind_of_file request = kinds.Csv
 
 -- some options are not for each kind of input
-abbrev pub is_of_another : Kind → OptionsTold → Bool
+abbrev pub is_of_another : Kind → GivenOptions → Bool
 is_of_another kinds.Csv told = false
 is_of_another kinds.Tsv told = is_some told.delimiter
 is_of_another kinds.Json told = told.is_of_fields || told.witness
 is_of_another kinds.Script told = told.is_of_fields
 
 -- some are not beside another one
-abbrev pub is_beside_width : OptionsTold → Bool
+abbrev pub is_beside_width : GivenOptions → Bool
 is_beside_width told = is_some told.width && (is_some told.cut || is_some told.max_width)
 
 -- and not each style has the crossings that fit spans
-abbrev pub lacks_crossings : OptionsTold → Bool
+abbrev pub lacks_crossings : GivenOptions → Bool
 lacks_crossings told = told.fits && not (is_some (fitting_frame told.style).intersection)
 
--- what options tell is refused for one of these
-abbrev pub is_refused : Kind → OptionsTold → Bool
+-- what options say is refused for one of these
+abbrev pub is_refused : Kind → GivenOptions → Bool
 is_refused kind told = is_of_another kind told || (is_beside_width told || lacks_crossings told)
 
--- a request of the program, what the input is, and what the options tell
-abbrev pub finished : WordsSaid → Result (programs.Request × (Kind × OptionsTold)) (Option Unexpected)
+-- a request of the program, what the input is, and what the options say
+abbrev pub finished : WordsSaid → Result (programs.Request × (Kind × GivenOptions)) (Option Unexpected)
 finished said =
     let asked = unwrap_or said.asked OfInput in
     let kind = unwrap_or said.told.kind (kind_of_file asked) in
     if is_some said.waits || is_refused kind said.told then Err None else Ok (asked, (kind, said.told))
 
 -- the same of words of which none was refused
-abbrev pub if_said : Result WordsSaid (Option Unexpected) → Result (programs.Request × (Kind × OptionsTold)) (Option Unexpected)
+abbrev pub if_said : Result WordsSaid (Option Unexpected) → Result (programs.Request × (Kind × GivenOptions)) (Option Unexpected)
 if_said (Ok said) = finished said
 if_said (Err word) = Err word
 
 -- what all words ask for, or that they are refused
-abbrev pub words_told : List (String Global) → Result (programs.Request × (Kind × OptionsTold)) (Option Unexpected)
+abbrev pub words_told : List (String Global) → Result (programs.Request × (Kind × GivenOptions)) (Option Unexpected)
 words_told words = if_said (said_by next_said (Ok unsaid) words)
 
 -- the form of a text
@@ -248,8 +248,8 @@ abbrev pub AreFitting : Bool → Borders ℕ → Option Junctions → Type 0
 AreFitting true frame junctions = IsSomeAnd junctions (AreOfFrame frame)
 AreFitting false frame junctions = junctions ≡ None
 
--- what is wanted is what the options tell
-pub record IsWanted (input : Kind) (told : OptionsTold) (wanted : Wanted) : Type 0 where
+-- what is wanted is what the options say
+pub record IsWanted (input : Kind) (told : GivenOptions) (wanted : Wanted) : Type 0 where
   pub kind : wanted.kind ≡ input
   pub reading : wanted.request.reading ≡ record {
     format = format_told input told.delimiter;
@@ -283,6 +283,6 @@ IsMisuseOf told (misuses.Said text) = told ≡ Err None
 IsMisuseOf told (misuses.Unexpected word) = told ≡ Err (Some word)
 
 -- this is answered where words ask for that
-abbrev pub IsAskedFor : Result (programs.Request × (Kind × OptionsTold)) (Option Unexpected) → Result (programs.Request × Wanted) Misuse → Type 0
-IsAskedFor told (Ok (asked, wanted)) = (input : Kind) × ((options : OptionsTold) × ((told ≡ Ok (asked, (input, options))) × IsWanted input options wanted))
+abbrev pub IsAskedFor : Result (programs.Request × (Kind × GivenOptions)) (Option Unexpected) → Result (programs.Request × Wanted) Misuse → Type 0
+IsAskedFor told (Ok (asked, wanted)) = (input : Kind) × ((options : GivenOptions) × ((told ≡ Ok (asked, (input, options))) × IsWanted input options wanted))
 IsAskedFor told (Err misuse) = IsMisuseOf told misuse

@@ -6,5 +6,6 @@ pub mod Places
 pub mod Spans
 pub mod Statuses
 pub mod Values
+pub mod Wide
 pub mod Witness
 pub mod ForProofs

@@ -6,7 +6,7 @@ ghost use Rattle.papergrid_text.specs.Separators.{is_separator};
 ghost use Rattle.papergrid_draw.specs.Crossings.{AreOfFrame};
 ghost use Rattle.papergrid_csv.specs.Requests.{IsSeparating, fitting_characters};
 ghost use Rattle.papergrid_csv.specs.Styles.{fitting_frame};
-ghost use Rattle.papergrid_table.specs.Arguments.{IsWanted, aligned, format_told, is_beside_width, is_of_another, is_refused, nothing_told, of_option, option_taken, switched, value_taken, valued_told};
+ghost use Rattle.papergrid_table.specs.Arguments.{IsWanted, aligned, format_told, is_beside_width, is_of_another, is_refused, no_options, of_option, option_taken, switched, value_taken, valued_told};
 ghost use Rattle.papergrid_table.specs.Options.{known};
 ghost use Rattle.papergrid_table.specs.Values.{alignment_named};
 ghost use Rattle.papergrid_table.specs.ForProofs.Drafts.{IsAnswer, IsDrawnIn, IsJudged, IsSaid, told_of};
@@ -58,7 +58,7 @@ impl Drop for Chosen {
 impl Chosen {
     /// Nothing is chosen.
     pub fn none(alloc: Global) -> Chosen
-        ensures { told_of result ≡ nothing_told }
+        ensures { told_of result ≡ no_options }
     {
         Chosen {
             alloc,
@@ -187,7 +187,7 @@ impl Chosen {
         }
     }
 
-    /// What is wanted of an input, which is of this kind where no option tells another.
+    /// What is wanted of an input, which is of this kind where no option says another.
     pub fn wanted(self, kind: Kind) -> Result<Wanted, Misuse>
         ensures told { let kind = unwrap_or self.kind kind in
             IsJudged (is_refused kind (told_of self)) (IsWanted kind (told_of self)) result }

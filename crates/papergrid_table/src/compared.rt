@@ -19,7 +19,7 @@ pub struct Difference {
     pub column: usize,
 }
 
-/// Draws the table of the input that is read, keeps the input, and tells how that ended and where the picture differs first.
+/// Draws the table of the input that is read, keeps the input, and answers how that ended and where the picture differs first.
 pub fn compare<S: Source>(
     alloc: Global,
     wanted: &mut Wanted,

@@ -17,11 +17,11 @@ pub enum DocumentEnd {
     Drawn,
     /// Its table has no picture.
     Refused(DrawError),
-    /// It tells no table.
+    /// It describes no table.
     Bad,
 }
 
-/// Draws the table of the document that a text tells, and tells how that ended.
+/// Draws the table of the document that a text tells, and answers how that ended.
 pub fn draw_text<W: Sink>(
     alloc: Global,
     sizing: Sizing,
@@ -67,7 +67,7 @@ pub fn said_of_document(
     }
 }
 
-/// What is said of a document that tells no table.
+/// What is said of a document that describes no table.
 fn said_of_error(alloc: Global, name: &str, error: &DocumentError) -> Result<String, AllocError> {
     let DocumentError::UnknownSetting { index, name: word } = error else {
         return format!(in alloc; "{name}: {error}");

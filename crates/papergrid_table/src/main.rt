@@ -39,7 +39,7 @@ use std::process::ExitCode;
 const TAKES: &str = "papergrid_table takes options and one FILE; --help tells all";
 
 /// Ends with status 0 where the table was drawn, 1 where it is refused, 2 where the input is bad or an argument
-/// is not taken, and 3 at a fault. What went wrong is told on standard error.
+/// is not taken, and 3 at a fault. What went wrong is written to standard error.
 fn main(rt: HostRuntime) -> ExitCode {
     let mut words = match env::args(&rt) {
         Ok(words) => words,

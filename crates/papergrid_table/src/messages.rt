@@ -15,7 +15,7 @@ use std::alloc::{AllocError, Global};
 /// What is said of the text, of this name, whose run ended so.
 pub fn message_of(
     alloc: Global,
-    request: &Request,
+    request: &mut Request,
     name: &str,
     input: &[u8],
     end: CsvEnd,

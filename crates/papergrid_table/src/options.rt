@@ -7,7 +7,7 @@ use crate::arguments::Kind;
 use crate::styles::STYLES;
 use papergrid_script::program::split_at_byte;
 
-/// What an option tells.
+/// What an option says.
 #[derive(Clone, Copy)]
 pub enum Choice {
     /// By itself.
@@ -16,7 +16,7 @@ pub enum Choice {
     Valued(Valued),
 }
 
-/// What an option tells that has no value.
+/// What an option says that has no value.
 #[derive(Clone, Copy)]
 pub enum Flag {
     /// What the input is.

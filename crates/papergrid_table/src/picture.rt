@@ -20,7 +20,7 @@ pub enum End {
     OfDocument(DocumentEnd),
 }
 
-/// Writes the picture of the input that is read, keeps the input, and tells how that ended.
+/// Writes the picture of the input that is read, keeps the input, and answers how that ended.
 pub fn run_input<S: Source, W: Sink>(
     alloc: Global,
     wanted: &mut Wanted,
@@ -41,7 +41,7 @@ pub fn run_input<S: Source, W: Sink>(
     draw_input(alloc, wanted, input.as_slice(), writer)
 }
 
-/// Writes the picture of an input, and tells how that ended.
+/// Writes the picture of an input, and answers how that ended.
 fn draw_input<W: Sink>(
     alloc: Global,
     wanted: &mut Wanted,

@@ -1,5 +1,9 @@
 //! The rows of a text, as messages name them.
 
+ghost use Rattle.std.specs.Prelude.{◌≡◌, [], option_map, unwrap_or};
+ghost use Rattle.papergrid_csv.specs.Judging.{field_at};
+ghost use Rattle.papergrid_csv.specs.Rows.{held_texts};
+
 use bumpalo::Bump;
 use papergrid_csv::{Request, Rows, RowsError, cut_rows, read_rows};
 use papergrid_values::Position;
@@ -34,6 +38,9 @@ pub fn whole_rows<'t>(
 }
 
 /// The text at a position, where its row has one.
-pub fn text_at<'r>(rows: &Rows<'r>, position: Position) -> Option<&'r str> {
+pub fn text_at<'r>(rows: &Rows<'r>, position: Position) -> Option<&'r str>
+    ensures { unwrap_or (option_map (λ text. text.now) result) []
+        ≡ field_at (held_texts rows.now.rows) position }
+{
     rows.rows.get(position.row)?.get(position.col).copied()
 }

@@ -168,18 +168,19 @@ fn is_drawn(end: End) -> bool
 }
 
 /// Says what kept the table from being drawn, or which cells show that it is no smaller, where that is asked.
-fn ended(rt: &HostRuntime, wanted: &Wanted, name: &str, input: &[u8], end: End) -> ExitCode
+fn ended(rt: &HostRuntime, wanted: &mut Wanted, name: &str, input: &[u8], end: End) -> ExitCode
     // Where there is no memory for what is said, it is a fault.
     ensures { (exit_status result ≡ end_status end) ⊎ (exit_status result ≡ 3) }
 {
-    let request = &wanted.request;
     if is_drawn(end) && !wanted.witness {
         return ExitCode::from(0);
     }
     let said = match end {
-        End::OfText(CsvEnd::Drawn) => witness_of_text(rt.alloc(), request, input),
+        End::OfText(CsvEnd::Drawn) => witness_of_text(rt.alloc(), &wanted.request, input),
         End::OfText(end) => said_of_text(rt.alloc(), wanted, name, input, end),
-        End::OfScript(RunEnd::Done) => witness_of_script(rt.alloc(), request.sizing, input),
+        End::OfScript(RunEnd::Done) => {
+            witness_of_script(rt.alloc(), wanted.request.sizing, input)
+        }
         End::OfScript(_) => said_of_script(rt.alloc(), wanted, input),
         End::OfDocument(end) => said_of_document(rt.alloc(), name, input, end),
     };
@@ -196,14 +197,14 @@ fn ended(rt: &HostRuntime, wanted: &Wanted, name: &str, input: &[u8], end: End) 
 /// What keeps a text from its picture.
 fn said_of_text(
     alloc: Global,
-    wanted: &Wanted,
+    wanted: &mut Wanted,
     name: &str,
     text: &[u8],
     end: CsvEnd,
 ) -> Result<String, AllocError> {
     match (wanted.width, end) {
         (Some(most), CsvEnd::TooWide(width)) => no_cut_fits(alloc, name, most, width),
-        _ => message_of_text(alloc, &wanted.request, name, text, end),
+        _ => message_of_text(alloc, &mut wanted.request, name, text, end),
     }
 }
 

@@ -167,7 +167,7 @@ fn span_size(size: &str) -> Option<(usize, usize)>
     }
 }
 
-/// A span as its option tells it.
+/// A span as its option says it.
 pub fn span_text(alloc: Global, span: &Span) -> Result<String, AllocError> {
     let Position { row, col } = span.position;
     let (rows, columns) = (span.rows, span.columns);

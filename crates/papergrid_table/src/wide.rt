@@ -1,10 +1,15 @@
 //! What is said of a table that is wider than it may be.
 
+ghost use Rattle.std.specs.Prelude.{◌≡◌, ◌<◌, ◌^◌, All, IfOk, IfSome, OnOk, Some, map};
+ghost use Rattle.papergrid_csv.specs.Certified.{HasPicture};
+ghost use Rattle.papergrid_csv.specs.Rows.{held_texts};
+ghost use Rattle.papergrid_table.specs.Wide.{AreWidestFirst, asked_at};
+
 use crate::places::line_of_record;
 use crate::rows::{shown_rows, text_at};
 use bumpalo::Bump;
 use papergrid::util::string::get_text_width;
-use papergrid_csv::{Request, Rows, certify_csv};
+use papergrid_csv::{Request, Rows, certify_csv, has_picture};
 use papergrid_layout::Solved;
 use papergrid_script::program::shown;
 use papergrid_values::Position;
@@ -21,10 +26,10 @@ struct Asking {
 }
 
 /// What is said of a table of this width, which is more than it may have: the widest of the cells that show that
-/// no table with room for all texts is narrower, if there are such cells, and where to cut.
+/// no table with room for all texts is narrower, if there are such cells, and where to cut. The request has that cut then.
 pub fn too_wide(
     alloc: Global,
-    request: &Request,
+    request: &mut Request,
     name: &str,
     input: &[u8],
     width: usize,
@@ -33,7 +38,7 @@ pub fn too_wide(
     let mut text = format!(in alloc;
         "{name}: the table is {width} columns wide, and --max-width allows {most}"
     )?;
-    add_what_helps(alloc, &mut text, request, input, (width, most))?;
+    add_what_helps(alloc, &mut text, request, input, width)?;
     Ok(text)
 }
 
@@ -41,14 +46,12 @@ pub fn too_wide(
 fn add_what_helps(
     alloc: Global,
     text: &mut String,
-    request: &Request,
+    request: &mut Request,
     input: &[u8],
-    (width, most): (usize, usize),
+    width: usize,
 ) -> Result<(), AllocError> {
     match certify_csv(alloc, request, input)? {
-        Some(found) => {
-            add_cells_and_cut(alloc, text, request, input, (&found.columns, width, most))
-        }
+        Some(found) => { add_cells_and_cut(alloc, text, request, input, (&found.columns, width)) }
         None => Ok(()),
     }
 }
@@ -57,19 +60,39 @@ fn add_what_helps(
 fn add_cells_and_cut(
     alloc: Global,
     text: &mut String,
-    request: &Request,
+    request: &mut Request,
     input: &[u8],
-    (widths, width, most): (&Solved, usize, usize),
+    (widths, width): (&Solved, usize),
 ) -> Result<(), AllocError> {
     if let Some(witness) = &widths.certificate {
         name_cells(alloc, text, request, input, (witness.as_slice(), width))?;
     }
-    if !request.spans.is_empty() {
-        return Ok(());
-    }
-    match cut_for(request, widths.sizes.as_slice(), width, most) {
+    match cut_that_fits(alloc, request, widths, input)? {
         Some(columns) => write!(text, "; --cut {columns} would fit"),
         None => Ok(()),
+    }
+}
+
+/// A cut by which the table of a text, which has these widths and no spans, is no wider than it may be, if there is one. The
+/// request has it then.
+fn cut_that_fits(
+    alloc: Global,
+    request: &mut Request,
+    widths: &Solved,
+    input: &[u8],
+) -> Result<Option<usize>, AllocError>
+    ensures { IfOk result (λ found. IfSome found (λ columns.
+        HasPicture (record request.old { cut = Some columns }) input.now)) }
+{
+    let most = request.max_width.unwrap_or(0);
+    let Some(columns) = greatest_cut(request, widths, most) else {
+        return Ok(None);
+    };
+    request.cut = Some(columns);
+    if has_picture(alloc, request, input)? {
+        Ok(Some(columns))
+    } else {
+        Ok(None)
     }
 }
 
@@ -133,13 +156,37 @@ fn widest_first(
     alloc: Global,
     read: Read<'_, '_>,
     cells: &[Position],
-) -> Result<Vec<Asking>, AllocError> {
-    let mut asking = Vec::with_capacity(alloc, cells.len())?;
-    for position in cells {
-        asking.push(asked_of(read.request, read.rows, *position))?;
-    }
-    asking.sort_by_key(|cell| usize::MAX.saturating_sub(cell.width))?;
+) -> Result<Vec<Asking>, AllocError>
+    ensures { let asked = asked_at read.entry.request.now (held_texts read.entry.rows.now.rows) in
+        IfOk result (λ asking. AreWidestFirst (map asked cells.now) asking.items) }
+{
+    let mut asking = all_asking(alloc, read, cells)?;
+    sort_widest_first(&mut asking)?;
     Ok(asking)
+}
+
+/// What the cells ask for.
+fn all_asking(
+    alloc: Global,
+    read: Read<'_, '_>,
+    cells: &[Position],
+) -> Result<Vec<Asking>, AllocError>
+    ensures { let asked = asked_at read.entry.request.now (held_texts read.entry.rows.now.rows) in
+        IfOk result (λ asking. asking.items ≡ map asked cells.now) }
+{
+    cells
+        .iter()
+        .map(|position| asked_of(read, *position))
+        .collect(alloc)
+}
+
+/// Sorts cells by what they ask for, the widest first.
+fn sort_widest_first(asking: &mut Vec<Asking>) -> Result<(), AllocError>
+    requires { All (λ cell. cell.width < 2 ^ 64) asking.old.items }
+    ensures { OnOk result (AreWidestFirst asking.old.items asking.new.items) }
+{
+    asking.sort_by_key(|cell| usize::MAX - cell.width)?;
+    Ok(())
 }
 
 /// Adds the first of the cells, and what is left of the width of the table.
@@ -173,16 +220,13 @@ fn add_cell(
 }
 
 /// What a cell asks for: the width of its text and of its padding.
-fn asked_of(request: &Request, rows: &Rows<'_>, position: Position) -> Asking {
-    let text = match text_at(rows, position) {
-        Some(text) => get_text_width(text),
-        None => 0,
-    };
-    let sides = request
-        .padding
-        .left
-        .size
-        .saturating_add(request.padding.right.size);
+fn asked_of(read: Read<'_, '_>, position: Position) -> Asking
+    ensures { result
+        ≡ asked_at read.entry.request.now (held_texts read.entry.rows.now.rows) position }
+{
+    let padding = &read.request.padding;
+    let sides = padding.left.size.saturating_add(padding.right.size);
+    let text = get_text_width(text_at(read.rows, position).unwrap_or(""));
     Asking {
         position,
         width: text.saturating_add(sides),
@@ -206,24 +250,23 @@ fn cell_name(
     Ok((head, line))
 }
 
-/// The greatest number of columns at which fields may be cut, so that a table without spans has no more than it may.
-fn cut_for(request: &Request, widths: &[usize], width: usize, most: usize) -> Option<usize> {
+/// The greatest number of columns at which fields may be cut, so that a table of these widths and without spans is at most so
+/// wide.
+fn greatest_cut(request: &Request, widths: &Solved, most: usize) -> Option<usize> {
+    if !request.spans.is_empty() {
+        return None;
+    }
     let sides = request
         .padding
         .left
         .size
         .saturating_add(request.padding.right.size);
-    let mut taken = 0usize;
-    for size in widths {
-        taken = taken.saturating_add(*size);
-    }
-    let lines = width.saturating_sub(taken);
     let (mut low, mut high) = (0, most);
     // So many halvings leave one number.
     for _ in 0..64 {
         if low < high {
             let middle = high - (high - low) / 2;
-            if cut_width(widths, lines, sides, middle) <= most {
+            if cut_width(widths, sides, middle) <= most {
                 low = middle;
             } else {
                 high = middle - 1;
@@ -234,10 +277,12 @@ fn cut_for(request: &Request, widths: &[usize], width: usize, most: usize) -> Op
 }
 
 /// How wide a table is at most whose fields are cut.
-fn cut_width(widths: &[usize], lines: usize, sides: usize, columns: usize) -> usize {
-    let mut total = lines;
-    for size in widths {
+fn cut_width(widths: &Solved, sides: usize, columns: usize) -> usize {
+    let (mut taken, mut total) = (0usize, 0usize);
+    for size in &widths.sizes {
+        taken = taken.saturating_add(*size);
         total = total.saturating_add((*size).min(columns.saturating_add(sides)));
     }
-    total
+    // What the widths leave of the whole is the lines.
+    total.saturating_add(widths.total.saturating_sub(taken))
 }

@@ -1,12 +1,10 @@
 //! The cells that show why a table is no smaller.
 
-ghost use Rattle.std.specs.Prelude.{◌≡◌, ◌≢◌, IfOk, MatchOption, Option};
+ghost use Rattle.std.specs.Prelude.{◌≡◌, IfOk, MatchOption, Option, option_map};
 ghost use Rattle.papergrid_values.specs.declared.per_direction.PerDirection.{PerDirection};
 ghost use Rattle.papergrid_tracks.specs.declared.solution.Solved.{Solved};
 ghost use Rattle.papergrid_layout.specs.Certificates.{solutions_of};
-ghost use Rattle.papergrid_script.specs.Estimates.{Sized};
-ghost use Rattle.papergrid_script.specs.Outputs.{end_by, estimate_text, output_by};
-ghost use Rattle.papergrid_script.specs.declared.answer.RunEnd.TheVariants.{Done};
+ghost use Rattle.papergrid_script.specs.Outputs.{sizes_by};
 ghost use Rattle.papergrid_csv.specs.Certified.{HasNoSizes, IsCsvCertified};
 ghost use Rattle.papergrid_csv.specs.Pictures.{IsCsvRun};
 ghost use Rattle.papergrid_table.specs.Witness.{witness_lines};
@@ -23,24 +21,22 @@ fn lines_of_text(alloc: Global, request: &Request, input: &[u8]) -> Result<Vec<u
     ensures { IfOk result (λ lines. (found : Option (PerDirection Solved))
         × MatchOption found (HasNoSizes (IsCsvRun request.now input.now))
         (IsCsvCertified request.now input.now)
-        × (lines.items ≡ witness_lines found)) }
+        × (lines.items ≡ witness_lines (option_map solutions_of found))) }
 {
     witness_lines(alloc, certify_csv(alloc, request, input)?)
 }
 
 /// The same of the table of a script.
 fn lines_of_script(alloc: Global, sizing: Sizing, script: &[u8]) -> Result<Vec<u8>, AllocError>
-    ensures { IfOk result (λ lines. (found : Option (PerDirection Solved))
-        × MatchOption found (end_by sizing script.now ≢ Done)
-        (λ both. output_by sizing script.now ≡ estimate_text (Sized (solutions_of both)))
-        × (lines.items ≡ witness_lines found)) }
+    ensures { IfOk result (λ lines. lines.items ≡ witness_lines (sizes_by sizing script.now)) }
 {
     witness_lines(alloc, certify_script(alloc, sizing, script)?)
 }
 
 /// The lines that name the cells that certify sizes, if there are any.
 fn witness_lines(alloc: Global, found: Option<PerDirection<Solved>>) -> Result<Vec<u8>, AllocError>
-    ensures { IfOk result (λ lines. lines.items ≡ witness_lines found) }
+    ensures { IfOk result (λ lines.
+        lines.items ≡ witness_lines (option_map solutions_of found)) }
 {
     match found {
         Some(found) => certificates_text(alloc, &found),

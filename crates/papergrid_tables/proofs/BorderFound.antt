@@ -50,13 +50,13 @@ module _ {T : Type 0} where
 
 -- ---- scans
 
-pub has_end_is : {T : Type 0} (place count : ℕ) (first end : Option T) → IsTrue (has_end place count first end) ↔ HasEnd place count first end
-has_end_is place count first end = (
-  (λ h. elim (eqb place 0 && is_some first) as (λ b. (eqb place 0 && is_some first) ≡ b → (b || (eqb place count && is_some end)) ≡ true → HasEnd place count first end) [
-    | true ↦ λ is _. let parts = and_parts _ _ is in inl (eqb-true place 0 parts.0, parts.1)
-    | false ↦ λ _ rest. let parts = and_parts _ _ rest in inr (eqb-true place count parts.0, parts.1)
+pub has_end_is : {T : Type 0} (index count : ℕ) (first end : Option T) → IsTrue (has_end index count first end) ↔ HasEnd index count first end
+has_end_is index count first end = (
+  (λ h. elim (eqb index 0 && is_some first) as (λ b. (eqb index 0 && is_some first) ≡ b → (b || (eqb index count && is_some end)) ≡ true → HasEnd index count first end) [
+    | true ↦ λ is _. let parts = and_parts _ _ is in inl (eqb-true index 0 parts.0, parts.1)
+    | false ↦ λ _ rest. let parts = and_parts _ _ rest in inr (eqb-true index count parts.0, parts.1)
   ] refl h),
-  (λ h. ⊎_elim (λ here. or_left _ _ (and_from _ _ (eq-eqb place 0 here.0) here.1)) (λ there. or_right _ _ (and_from _ _ (eq-eqb place count there.0) there.1)) h),
+  (λ h. ⊎_elim (λ here. or_left _ _ (and_from _ _ (eq-eqb index 0 here.0) here.1)) (λ there. or_right _ _ (and_from _ _ (eq-eqb index count there.0) there.1)) h),
 )
 
 pub some_value : {A : Type 0} (o : Option A) → IsSome o → (x : A) × (o ≡ Some x)
@@ -64,12 +64,12 @@ some_value None h = absurd (false≢true h)
 some_value (Some x) h = (x, refl)
 
 -- an end of a line
-pub ends_scan : {L T : Type 0} (first end : L → Option T) (place count : ℕ) (es : List (ℕ × L)) (b : Bool) → b ≡ list_any (λ e. has_end place count (first e.1) (end e.1)) es → IsDistinct eqb (keys_of es)
-    → IsTrue b ↔ ((n : ℕ) × (line : L) × (get (from_entries {R = nat_cmp} es) n ≡ Some line) × HasEnd place count (first line) (end line))
-ends_scan first end place count es b is distinct =
-    let test = λ (e : ℕ × _). has_end place count (first e.1) (end e.1) in (
-      (λ h. let found = any_found nat_eq_equiv test es distinct (sym is ∙ h) in (found.0, found.1, get_at_number es found.0 ∙ found.2, (has_end_is place count _ _).0 found.3)),
-      (λ h. is ∙ any_from_found nat_eq_equiv test es eqb-true h.0 h.1 (sym (get_at_number es h.0) ∙ h.2) ((has_end_is place count _ _).1 h.3)),
+pub ends_scan : {L T : Type 0} (first end : L → Option T) (index count : ℕ) (es : List (ℕ × L)) (b : Bool) → b ≡ list_any (λ e. has_end index count (first e.1) (end e.1)) es → IsDistinct eqb (keys_of es)
+    → IsTrue b ↔ ((n : ℕ) × (line : L) × (get (from_entries {R = nat_cmp} es) n ≡ Some line) × HasEnd index count (first line) (end line))
+ends_scan first end index count es b is distinct =
+    let test = λ (e : ℕ × _). has_end index count (first e.1) (end e.1) in (
+      (λ h. let found = any_found nat_eq_equiv test es distinct (sym is ∙ h) in (found.0, found.1, get_at_number es found.0 ∙ found.2, (has_end_is index count _ _).0 found.3)),
+      (λ h. is ∙ any_from_found nat_eq_equiv test es eqb-true h.0 h.1 (sym (get_at_number es h.0) ∙ h.2) ((has_end_is index count _ _).1 h.3)),
     )
 
 pub key_scan : {L : Type 0} (es : List (ℕ × L)) (n : ℕ) (b : Bool) → b ≡ is_some (lookup (eqb n) es) → IsTrue b ↔ IsSome (get (from_entries {R = nat_cmp} es) n)

@@ -46,33 +46,33 @@ module _ {K X : Type 0} where
 ends_apart : (x y a b u v : Bool) → (((x && a) || (y && b)) || ((x && u) || (y && v))) ≡ ((x && (a || u)) || (y && (b || v)))
 ends_apart x y a b u v = grind arith
 
-any_end : {L T : Type 0} (first end : L → Option T) (place count : ℕ) (es : List (ℕ × L))
-    → list_any (λ e. has_end place count (first e.1) (end e.1)) es ≡ ((eqb place 0 && list_any (λ e. is_some (first e.1)) es) || (eqb place count && list_any (λ e. is_some (end e.1)) es))
-any_end first end place count [] = grind arith
-any_end first end place count (e ∷ es) =
-    ap (λ b. has_end place count (first e.1) (end e.1) || b) (any_end first end place count es) ∙ ends_apart (eqb place 0) (eqb place count) _ _ _ _
+any_end : {L T : Type 0} (first end : L → Option T) (index count : ℕ) (es : List (ℕ × L))
+    → list_any (λ e. has_end index count (first e.1) (end e.1)) es ≡ ((eqb index 0 && list_any (λ e. is_some (first e.1)) es) || (eqb index count && list_any (λ e. is_some (end e.1)) es))
+any_end first end index count [] = grind arith
+any_end first end index count (e ∷ es) =
+    ap (λ b. has_end index count (first e.1) (end e.1) || b) (any_end first end index count es) ∙ ends_apart (eqb index 0) (eqb index count) _ _ _ _
 
 -- an end of a line
-pub ends_counted : {L T : Type 0} (first end : L → Option T) (place count : ℕ) (lines : Lines L) (b : Bool) → AreEndsCounted (λ line. is_some (first line)) (λ line. is_some (end line)) lines
-    → b ≡ ((eqb place 0 && nat_lt 0 lines.first_ends) || (eqb place count && nat_lt 0 lines.last_ends))
-    → IsTrue b ↔ ((n : ℕ) × (line : L) × (get (from_entries {R = nat_cmp} lines.values.entries) n ≡ Some line) × HasEnd place count (first line) (end line))
-ends_counted first end place count lines b counted is =
+pub ends_counted : {L T : Type 0} (first end : L → Option T) (index count : ℕ) (lines : Lines L) (b : Bool) → AreEndsCounted (λ line. is_some (first line)) (λ line. is_some (end line)) lines
+    → b ≡ ((eqb index 0 && nat_lt 0 lines.first_ends) || (eqb index count && nat_lt 0 lines.last_ends))
+    → IsTrue b ↔ ((n : ℕ) × (line : L) × (get (from_entries {R = nat_cmp} lines.values.entries) n ≡ Some line) × HasEnd index count (first line) (end line))
+ends_counted first end index count lines b counted is =
     let es = lines.values.entries in
     let firsts = ap (nat_lt 0) counted.first ∙ any_counted _ (values_of es) ∙ by_value (λ line. is_some (first line)) es in
     let lasts = ap (nat_lt 0) counted.last ∙ any_counted _ (values_of es) ∙ by_value (λ line. is_some (end line)) es in
-    ends_scan first end place count es b (is ∙ (λ i. (eqb place 0 && firsts i) || (eqb place count && lasts i)) ∙ sym (any_end first end place count es)) counted.unique
+    ends_scan first end index count es b (is ∙ (λ i. (eqb index 0 && firsts i) || (eqb index count && lasts i)) ∙ sym (any_end first end index count es)) counted.unique
 
--- a place in a row or a column
-pub parts_counted : {T R S : Type 0} (direction : Direction) (n : ℕ) (places : HashMap Position T R) (counts : HashMap ℕ ℕ S) (b : Bool)
-    → AreCounts direction counts (keys places) → b ≡ nat_lt 0 (line_count_of counts n)
-    → IsTrue b ↔ ((p : Position) × (along direction p ≡ n) × IsSome (get (from_entries {R = position_cmp} places.entries) p))
-parts_counted direction n places counts b counted is =
+-- a position in a row or a column
+pub parts_counted : {T R S : Type 0} (direction : Direction) (n : ℕ) (positions : HashMap Position T R) (counts : HashMap ℕ ℕ S) (b : Bool)
+    → AreCounts direction counts (keys positions) → b ≡ nat_lt 0 (line_count_of counts n)
+    → IsTrue b ↔ ((p : Position) × (along direction p ≡ n) × IsSome (get (from_entries {R = position_cmp} positions.entries) p))
+parts_counted direction n positions counts b counted is =
     let test = λ (p : Position). eqb (along direction p) n in
-    let any = is ∙ ap (nat_lt 0) (counted n) ∙ any_counted test (keys places) in (
-      (λ h. let found = some_key position_equiv test places.entries (sym any ∙ h) in (found.0, eqb-true _ _ found.1, ap is_some (get_at_position places.entries found.0) ∙ found.2)),
-      (λ h. let stored = some_value (get (from_entries {R = position_cmp} places.entries) h.0) h.2 in
-          any ∙ by_key test places.entries
-          ∙ any_from_found position_equiv (λ e. test e.0) places.entries exact_position_eq h.0 stored.0 (sym (get_at_position places.entries h.0) ∙ stored.1) (eq-eqb _ _ h.1)),
+    let any = is ∙ ap (nat_lt 0) (counted n) ∙ any_counted test (keys positions) in (
+      (λ h. let found = some_key position_equiv test positions.entries (sym any ∙ h) in (found.0, eqb-true _ _ found.1, ap is_some (get_at_position positions.entries found.0) ∙ found.2)),
+      (λ h. let stored = some_value (get (from_entries {R = position_cmp} positions.entries) h.0) h.2 in
+          any ∙ by_key test positions.entries
+          ∙ any_from_found position_equiv (λ e. test e.0) positions.entries exact_position_eq h.0 stored.0 (sym (get_at_position positions.entries h.0) ∙ stored.1) (eq-eqb _ _ h.1)),
     )
 
 -- an end of a line across, a line, an edge or a corner

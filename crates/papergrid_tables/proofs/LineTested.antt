@@ -15,7 +15,7 @@ use Rattle.papergrid_tables.specs.StoredBorders.{StoredBorders, parts_of_borders
 use Rattle.papergrid_values.specs.MapKeys.{position_cmp}
 use Rattle.papergrid_tables.specs.LineTests.{ends_at_column, ends_at_row, horizontal_line_at, vertical_line_at}
 use Rattle.papergrid_tables.specs.BorderParts.{HasHorizontal, HasVertical, HasEnd}
-use Rattle.papergrid_values.proofs.AnyLemmas.{any_place}
+use Rattle.papergrid_values.proofs.AnyLemmas.{any_index}
 use Rattle.papergrid_tables.proofs.BorderFound.{either, has_end_is, some_value}
 use Rattle.papergrid_values.proofs.KeyLemmas.{exact_position, position_ties, position_equiv}
 use Rattle.papergrid_values.proofs.ResultLemmas.{same_answer}
@@ -24,13 +24,13 @@ use Rattle.papergrid_values.proofs.ResultLemmas.{same_answer}
 module _ {K X : Type 0} {R : K → K → Ordering} (exact : (x y : K) → eq_by_cmp R x y ≡ true → x ≡ y) (ties : (x : K) → eq_by_cmp R x x ≡ true) (m : FinMap R X) (test : K → Bool) where
   found_key : list_any test (keys m) ≡ true → (k : K) × IsSome (get m k) × (test k ≡ true)
   found_key h =
-      let place = any_place test (keys m) h in
-      (place.1, contains_key-keys m place.1 ∙ any_passes_from_place (eq_by_cmp R place.1) (keys m) place.0 place.1 place.2 (ties place.1), place.3)
+      let position = any_index test (keys m) h in
+      (position.1, contains_key-keys m position.1 ∙ any_passes_from_place (eq_by_cmp R position.1) (keys m) position.0 position.1 position.2 (ties position.1), position.3)
 
   from_key : (k : K) → IsSome (get m k) → test k ≡ true → list_any test (keys m) ≡ true
   from_key k stored passes =
-      let place = any_place _ (keys m) (sym (contains_key-keys m k) ∙ stored) in
-      any_passes_from_place test (keys m) place.0 place.1 place.2 (subst (λ q. test q ≡ true) (exact k place.1 place.3) passes)
+      let position = any_index _ (keys m) (sym (contains_key-keys m k) ∙ stored) in
+      any_passes_from_place test (keys m) position.0 position.1 position.2 (subst (λ q. test q ≡ true) (exact k position.1 position.3) passes)
 
 pub exact_number : (x y : ℕ) → eq_by_cmp nat_cmp x y ≡ true → x ≡ y
 exact_number x y h = eqb-true x y (sym (unsigned_tied x y) ∙ h)
@@ -41,10 +41,10 @@ number_ties x = unsigned_tied x x ∙ eq-eqb x x refl
 pub same_position : (p : Position) → eq_by_cmp position_cmp p p ≡ true
 same_position p = sym (position_ties p p) ∙ position_equiv.refl p
 
--- a place in a row or a column
-place_test : {T : Type 0} (along : Position → ℕ) (n : ℕ) (m : FinMap position_cmp T)
+-- a position in a row or a column
+position_test : {T : Type 0} (along : Position → ℕ) (n : ℕ) (m : FinMap position_cmp T)
     → (list_any (λ p. eqb (along p) n) (keys m) ≡ true) ↔ ((p : Position) × (along p ≡ n) × IsSome (get m p))
-place_test along n m = (
+position_test along n m = (
   (λ h. let found = found_key exact_position same_position m (λ p. eqb (along p) n) h in (found.0, eqb-true _ _ found.2, found.1)),
   (λ h. from_key exact_position same_position m (λ p. eqb (along p) n) h.0 h.2 (eq-eqb _ _ h.1)),
 )
@@ -68,13 +68,13 @@ module _ {T : Type 0} (stored : StoredBorders T) where
   vertical_tested c count =
       either _ _ (itself _) (either _ _ (itself _) (either _ _
       (end_test (λ (line : HorizontalLine T). HasEnd c count line.left line.right) (ends_at_column c count) stored.horizontal_lines (λ line. has_end_is c count line.left line.right) refl)
-      (either _ _ (itself _) (either _ _ (place_test (λ p. p.col) c stored.vertical_edges) (place_test (λ p. p.col) c stored.corners)))))
+      (either _ _ (itself _) (either _ _ (position_test (λ p. p.col) c stored.vertical_edges) (position_test (λ p. p.col) c stored.corners)))))
 
   pub horizontal_tested : (r count : ℕ) → IsTrue (horizontal_line_at stored r count) ↔ HasHorizontal (parts_of_borders stored) r count
   horizontal_tested r count =
       either _ _ (itself _) (either _ _ (itself _) (either _ _
       (end_test (λ (line : VerticalLine T). HasEnd r count line.top line.bottom) (ends_at_row r count) stored.vertical_lines (λ line. has_end_is r count line.top line.bottom) refl)
-      (either _ _ (itself _) (either _ _ (place_test (λ p. p.row) r stored.horizontal_edges) (place_test (λ p. p.row) r stored.corners)))))
+      (either _ _ (itself _) (either _ _ (position_test (λ p. p.row) r stored.horizontal_edges) (position_test (λ p. p.row) r stored.corners)))))
 
   -- a test of a line is the test of it
   pub vertical_test : (c count : ℕ) (b : Bool) → (IsTrue b ↔ HasVertical (parts_of_borders stored) c count) → b ≡ vertical_line_at stored c count

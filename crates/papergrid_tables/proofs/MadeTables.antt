@@ -10,7 +10,7 @@ use Rattle.std.specs.FinMap.{nat_cmp-IsAntisymmetric, same_map}
 use Rattle.std.proofs.lemmas.Bool.{false≢true, or_left, or_right, eqb-true, eq-eqb}
 use Rattle.papergrid_values.specs.declared.direction.Direction.TheVariants.{Columns, Rows}
 use Rattle.papergrid_values.specs.declared.position.Position.{Position}
-use Rattle.papergrid_tables.specs.BorderCalls.{at_place, below, right_of, BorderCall, InsertBorder, RemoveBorder, InsertHorizontalLine, RemoveHorizontalLine, InsertVerticalLine, RemoveVerticalLine, Clear, is_edge_of, is_corner_of, edge_part, corner_part}
+use Rattle.papergrid_tables.specs.BorderCalls.{at_position, below, right_of, BorderCall, InsertBorder, RemoveBorder, InsertHorizontalLine, RemoveHorizontalLine, InsertVerticalLine, RemoveVerticalLine, Clear, is_edge_of, is_corner_of, edge_part, corner_part}
 use Rattle.papergrid_tables.specs.StoredBorders.{StoredBorders, HasBorderHistory, parts_of_borders}
 use Rattle.papergrid_values.specs.MapKeys.{position_cmp, position_eq}
 use Rattle.papergrid_tables.specs.Made.{borders_made, named_columns, named_positions, named_rows}
@@ -72,8 +72,8 @@ column_named (RemoveVerticalLine k) old q h = kept_there (eqb k q) (old.vertical
 column_named Clear old q h = absurd (false≢true h)
 column_named call old q h = h
 
--- a part at a place: it is written there alone
-set_at : {T : Type 0} (p q : Position) (part : Option T) → is_some (at_place p q part) ≡ true → eq_by_cmp position_cmp q p ≡ true
+-- a part at a position: it is written there alone
+set_at : {T : Type 0} (p q : Position) (part : Option T) → is_some (at_position p q part) ≡ true → eq_by_cmp position_cmp q p ≡ true
 set_at p q part h = elim (position_eq p q) as (λ b. position_eq p q ≡ b → is_some (cond b part None) ≡ true → eq_by_cmp position_cmp q p ≡ true) [
   | true ↦ λ here _. sym (position_ties q p) ∙ position_equiv.symm q p ∙ here
   | false ↦ λ _ none. absurd (false≢true none)
@@ -84,16 +84,16 @@ module _ (cell q : Position) where
   abbrev at_one : Bool
   at_one = list_any (eq_by_cmp position_cmp q) (cell ∷ below cell ∷ right_of cell ∷ below (right_of cell) ∷ [])
 
-  at_cell : {T : Type 0} (part : Option T) → is_some (at_place cell q part) ≡ true → at_one ≡ true
+  at_cell : {T : Type 0} (part : Option T) → is_some (at_position cell q part) ≡ true → at_one ≡ true
   at_cell part h = or_left _ _ (set_at cell q part h)
 
-  at_below : {T : Type 0} (part : Option T) → is_some (at_place (below cell) q part) ≡ true → at_one ≡ true
+  at_below : {T : Type 0} (part : Option T) → is_some (at_position (below cell) q part) ≡ true → at_one ≡ true
   at_below part h = or_right _ _ (or_left _ _ (set_at (below cell) q part h))
 
-  at_right : {T : Type 0} (part : Option T) → is_some (at_place (right_of cell) q part) ≡ true → at_one ≡ true
+  at_right : {T : Type 0} (part : Option T) → is_some (at_position (right_of cell) q part) ≡ true → at_one ≡ true
   at_right part h = or_right _ _ (or_right _ _ (or_left _ _ (set_at (right_of cell) q part h)))
 
-  at_opposite : {T : Type 0} (part : Option T) → is_some (at_place (below (right_of cell)) q part) ≡ true → at_one ≡ true
+  at_opposite : {T : Type 0} (part : Option T) → is_some (at_position (below (right_of cell)) q part) ≡ true → at_one ≡ true
   at_opposite part h =
       let at = eq_by_cmp position_cmp q in
       or_right (at cell) _ (or_right (at (below cell)) _ (or_right (at (right_of cell)) _ (or_left (at (below (right_of cell))) false (set_at (below (right_of cell)) q part h))))
@@ -105,7 +105,7 @@ either_set (Some v) b m h first next = first refl
 horizontal_edge_named : {T : Type 0} (call : BorderCall T) (old : BorderParts T) (q : Position) → is_some ((parts_after_call call old).horizontal_edge q) ≡ true
     → (list_any (eq_by_cmp position_cmp q) (named_positions call) || is_some (old.horizontal_edge q)) ≡ true
 horizontal_edge_named (InsertBorder p b) old q h = gained_named (edge_part Rows p b q) (old.horizontal_edge q) (at_one p q) h
-    (λ set. either_set (at_place p q b.top) (at_place (below p) q b.bottom) (at_one p q) set (at_cell p q b.top) (at_below p q b.bottom))
+    (λ set. either_set (at_position p q b.top) (at_position (below p) q b.bottom) (at_one p q) set (at_cell p q b.top) (at_below p q b.bottom))
 horizontal_edge_named (RemoveBorder p) old q h = kept_there (is_edge_of Rows p q) (old.horizontal_edge q) h
 horizontal_edge_named Clear old q h = absurd (false≢true h)
 horizontal_edge_named call old q h = h
@@ -113,7 +113,7 @@ horizontal_edge_named call old q h = h
 vertical_edge_named : {T : Type 0} (call : BorderCall T) (old : BorderParts T) (q : Position) → is_some ((parts_after_call call old).vertical_edge q) ≡ true
     → (list_any (eq_by_cmp position_cmp q) (named_positions call) || is_some (old.vertical_edge q)) ≡ true
 vertical_edge_named (InsertBorder p b) old q h = gained_named (edge_part Columns p b q) (old.vertical_edge q) (at_one p q) h
-    (λ set. either_set (at_place p q b.left) (at_place (right_of p) q b.right) (at_one p q) set (at_cell p q b.left) (at_right p q b.right))
+    (λ set. either_set (at_position p q b.left) (at_position (right_of p) q b.right) (at_one p q) set (at_cell p q b.left) (at_right p q b.right))
 vertical_edge_named (RemoveBorder p) old q h = kept_there (is_edge_of Columns p q) (old.vertical_edge q) h
 vertical_edge_named Clear old q h = absurd (false≢true h)
 vertical_edge_named call old q h = h
@@ -121,9 +121,9 @@ vertical_edge_named call old q h = h
 corner_named : {T : Type 0} (call : BorderCall T) (old : BorderParts T) (q : Position) → is_some ((parts_after_call call old).corner q) ≡ true
     → (list_any (eq_by_cmp position_cmp q) (named_positions call) || is_some (old.corner q)) ≡ true
 corner_named (InsertBorder p b) old q h = gained_named (corner_part p b q) (old.corner q) (at_one p q) h
-    (λ h. either_set (at_place p q b.left_top_corner) _ (at_one p q) h (at_cell p q b.left_top_corner)
-    (λ h. either_set (at_place (right_of p) q b.right_top_corner) _ (at_one p q) h (at_right p q b.right_top_corner)
-    (λ h. either_set (at_place (below p) q b.left_bottom_corner) (at_place (below (right_of p)) q b.right_bottom_corner) (at_one p q) h (at_below p q b.left_bottom_corner) (at_opposite p q b.right_bottom_corner))))
+    (λ h. either_set (at_position p q b.left_top_corner) _ (at_one p q) h (at_cell p q b.left_top_corner)
+    (λ h. either_set (at_position (right_of p) q b.right_top_corner) _ (at_one p q) h (at_right p q b.right_top_corner)
+    (λ h. either_set (at_position (below p) q b.left_bottom_corner) (at_position (below (right_of p)) q b.right_bottom_corner) (at_one p q) h (at_below p q b.left_bottom_corner) (at_opposite p q b.right_bottom_corner))))
 corner_named (RemoveBorder p) old q h = kept_there (is_corner_of p q) (old.corner q) h
 corner_named Clear old q h = absurd (false≢true h)
 corner_named call old q h = h
@@ -137,11 +137,11 @@ module _ {T : Type 0} where
       λ i. record {
         global = (parts_from older).global;
         frame = (parts_from older).frame;
-        horizontal_line = λ n. tabulates nat_cmp_total exact_number (parts_from older).horizontal_line (flat_map named_rows older) (all_named nat_cmp (λ (places : BorderParts T). places.horizontal_line) named_rows (λ q h. false≢true h) row_named older) n i;
-        vertical_line = λ n. tabulates nat_cmp_total exact_number (parts_from older).vertical_line (flat_map named_columns older) (all_named nat_cmp (λ (places : BorderParts T). places.vertical_line) named_columns (λ q h. false≢true h) column_named older) n i;
-        horizontal_edge = λ p. tabulates position_total exact_position (parts_from older).horizontal_edge (flat_map named_positions older) (all_named position_cmp (λ (places : BorderParts T). places.horizontal_edge) named_positions (λ q h. false≢true h) horizontal_edge_named older) p i;
-        vertical_edge = λ p. tabulates position_total exact_position (parts_from older).vertical_edge (flat_map named_positions older) (all_named position_cmp (λ (places : BorderParts T). places.vertical_edge) named_positions (λ q h. false≢true h) vertical_edge_named older) p i;
-        corner = λ p. tabulates position_total exact_position (parts_from older).corner (flat_map named_positions older) (all_named position_cmp (λ (places : BorderParts T). places.corner) named_positions (λ q h. false≢true h) corner_named older) p i;
+        horizontal_line = λ n. tabulates nat_cmp_total exact_number (parts_from older).horizontal_line (flat_map named_rows older) (all_named nat_cmp (λ (parts : BorderParts T). parts.horizontal_line) named_rows (λ q h. false≢true h) row_named older) n i;
+        vertical_line = λ n. tabulates nat_cmp_total exact_number (parts_from older).vertical_line (flat_map named_columns older) (all_named nat_cmp (λ (parts : BorderParts T). parts.vertical_line) named_columns (λ q h. false≢true h) column_named older) n i;
+        horizontal_edge = λ p. tabulates position_total exact_position (parts_from older).horizontal_edge (flat_map named_positions older) (all_named position_cmp (λ (parts : BorderParts T). parts.horizontal_edge) named_positions (λ q h. false≢true h) horizontal_edge_named older) p i;
+        vertical_edge = λ p. tabulates position_total exact_position (parts_from older).vertical_edge (flat_map named_positions older) (all_named position_cmp (λ (parts : BorderParts T). parts.vertical_edge) named_positions (λ q h. false≢true h) vertical_edge_named older) p i;
+        corner = λ p. tabulates position_total exact_position (parts_from older).corner (flat_map named_positions older) (all_named position_cmp (λ (parts : BorderParts T). parts.corner) named_positions (λ q h. false≢true h) corner_named older) p i;
       }
 
   -- tables that have the same parts are the same

@@ -113,15 +113,15 @@ module _ {T : Type 0} (eq : T → T → Bool) where
 
   pub overrides_agree : (s t : FinMap position_cmp (StoredOffsets T)) → (overrides_eq eq s t ≡ true) ↔ HoldTheSame eq s t
   overrides_agree s t =
-      let places = positions_agree (offsets_eq eq) (with_overrides s) (with_overrides t) in
+      let positions = positions_agree (offsets_eq eq) (with_overrides s) (with_overrides t) in
       let entries : (p : Position) → option_eq (offsets_eq eq) (get (with_overrides s) p) (get (with_overrides t) p) ≡ option_eq (offsets_eq eq) (kept (get s p)) (kept (get t p))
       = λ p i. option_eq (offsets_eq eq) (kept_entry s p i) (kept_entry t p i) in
       let stored : (p : Position) (o : Offset) → option_eq eq (stored_at (kept (get s p)) o) (stored_at (kept (get t p)) o) ≡ option_eq eq (override_at s p o) (override_at t p o)
       = λ p o i. option_eq eq (kept_same (get s p) o i) (kept_same (get t p) o i) in
       let each : (p : Position) → (option_eq (offsets_eq eq) (kept (get s p)) (kept (get t p)) ≡ true) ↔ ((o : Offset) → option_eq eq (stored_at (kept (get s p)) o) (stored_at (kept (get t p)) o) ≡ true)
       = λ p. same_entry (kept (get s p)) (kept (get t p)) (kept_set (get s p)) (kept_set (get t p)) in (
-        λ h p o. sym (stored p o) ∙ (each p).0 (sym (entries p) ∙ places.0 h p) o,
-        λ same. places.1 (λ p. entries p ∙ (each p).1 (λ o. stored p o ∙ same p o)),
+        λ h p o. sym (stored p o) ∙ (each p).0 (sym (entries p) ∙ positions.0 h p) o,
+        λ same. positions.1 (λ p. entries p ∙ (each p).1 (λ o. stored p o ∙ same p o)),
       )
 
   -- of tables that keep no position without an override
@@ -131,9 +131,9 @@ module _ {T : Type 0} (eq : T → T → Bool) where
   overrides_eq-from_entries es fs set_es set_fs =
       let s : FinMap position_cmp (StoredOffsets T) = from_entries es in
       let t : FinMap position_cmp (StoredOffsets T) = from_entries fs in
-      let places = positions_agree (offsets_eq eq) s t in
+      let positions = positions_agree (offsets_eq eq) s t in
       let stored = overrides_agree s t in
       let each : (p : Position) → (option_eq (offsets_eq eq) (get s p) (get t p) ≡ true) ↔ ((o : Offset) → option_eq eq (override_at s p o) (override_at t p o) ≡ true)
       = λ p. same_entry (get s p) (get t p) (λ h is. set_es p h (sym (get_at_position es p) ∙ is)) (λ h is. set_fs p h (sym (get_at_position fs p) ∙ is)) in
       sym (positions_eq-from_entries (offsets_eq eq) es fs)
-      ∙ same_test _ _ (λ h. stored.1 (λ p. (each p).0 (places.0 h p))) (λ h. places.1 (λ p. (each p).1 (stored.0 h p)))
+      ∙ same_test _ _ (λ h. stored.1 (λ p. (each p).0 (positions.0 h p))) (λ h. positions.1 (λ p. (each p).1 (stored.0 h p)))

@@ -64,8 +64,8 @@ ends_copied C D has_first has_last lines copy same keeps_first keeps_last cloned
   unique = subst (IsDistinct eqb) (sym (keys_copied C D same lines.values.entries copy.values.entries cloned)) counted.unique;
 }
 
-pub counts_copied : {S : Type 0} (C : ℕ → ℕ → Type 0) (D : ℕ → ℕ → Type 0) (direction : Direction) (counts copy : HashMap ℕ ℕ S) (places more : List Position)
-    → ((x y : ℕ) → C x y → y ≡ x) → ((x y : ℕ) → D x y → y ≡ x) → IsClone C D counts copy → more ≡ places → AreCounts direction counts places → AreCounts direction copy more
-counts_copied C D direction counts copy places more same_key same cloned keys counted = λ line.
+pub counts_copied : {S : Type 0} (C : ℕ → ℕ → Type 0) (D : ℕ → ℕ → Type 0) (direction : Direction) (counts copy : HashMap ℕ ℕ S) (positions more : List Position)
+    → ((x y : ℕ) → C x y → y ≡ x) → ((x y : ℕ) → D x y → y ≡ x) → IsClone C D counts copy → more ≡ positions → AreCounts direction counts positions → AreCounts direction copy more
+counts_copied C D direction counts copy positions more same_key same cloned keys counted = λ line.
     ap (λ es. unwrap_or (lookup (eqb line) es) 0) (entries_from_clone C D same_key same counts.entries copy.entries cloned)
     ∙ counted line ∙ ap (number_on direction line) (sym keys)

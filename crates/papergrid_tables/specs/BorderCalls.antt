@@ -42,20 +42,20 @@ is_corner_of cell p =
     || (position_eq (below cell) p || position_eq (below (right_of cell)) p)
 
 module _ {T : Type 0} where
-  -- the part, if it is the one written at this place
-  abbrev pub at_place : Position → Position → Option T → Option T
-  at_place written p part = if position_eq written p then part else None
+  -- the part, if it is the one written at this position
+  abbrev pub at_position : Position → Position → Option T → Option T
+  at_position written p part = if position_eq written p then part else None
 
   -- the part of a cell's border at an edge: the cell's position is that of its top and left edges
   abbrev pub edge_part : Direction → Position → Border T → Position → Option T
-  edge_part Rows cell b p = option_or (at_place cell p b.top) (at_place (below cell) p b.bottom)
+  edge_part Rows cell b p = option_or (at_position cell p b.top) (at_position (below cell) p b.bottom)
   edge_part Columns cell b p =
-      option_or (at_place cell p b.left) (at_place (right_of cell) p b.right)
+      option_or (at_position cell p b.left) (at_position (right_of cell) p b.right)
 
   -- at a corner: the cell's position is that of its left top corner
   abbrev pub corner_part : Position → Border T → Position → Option T
   corner_part cell b p =
-      option_or (at_place cell p b.left_top_corner)
-      (option_or (at_place (right_of cell) p b.right_top_corner)
-      (option_or (at_place (below cell) p b.left_bottom_corner)
-      (at_place (below (right_of cell)) p b.right_bottom_corner)))
+      option_or (at_position cell p b.left_top_corner)
+      (option_or (at_position (right_of cell) p b.right_top_corner)
+      (option_or (at_position (below cell) p b.left_bottom_corner)
+      (at_position (below (right_of cell)) p b.right_bottom_corner)))

@@ -12,10 +12,10 @@ use Rattle.papergrid_values.specs.declared.horizontal_line.HorizontalLine.{Horiz
 use Rattle.papergrid_values.specs.declared.vertical_line.VerticalLine.{VerticalLine}
 use Rattle.papergrid_tables.specs.BorderCalls.{BorderCall, InsertBorder, RemoveBorder, InsertHorizontalLine, RemoveHorizontalLine, InsertVerticalLine, RemoveVerticalLine, SetBorders, SetGlobal, Clear, below, right_of, is_edge_of, is_corner_of, edge_part, corner_part}
 
--- the test for the first place, for the last one, or for those between
+-- the test for the first line, for the last one, or for those between
 abbrev pub at_ends : ℕ → ℕ → Bool → Bool → Bool → Bool
-at_ends place count first end inner =
-    (place == 0 && first) || ((place == count && end) || (nat_lt 0 place && (nat_lt place count && inner)))
+at_ends index count first end inner =
+    (index == 0 && first) || ((index == count && end) || (nat_lt 0 index && (nat_lt index count && inner)))
 
 -- the parts
 pub record BorderParts (T : Type 0) : Type 0 where
@@ -74,10 +74,10 @@ module _ {T : Type 0} where
   parts_from (call ∷ older) = parts_after_call call (parts_from older)
 
   -- no edge and no corner of a cell is set
-  pub record HasNoCellParts (places : BorderParts T) : Type 0 where
-    pub horizontal_edges : (p : Position) → places.horizontal_edge p ≡ None
-    pub vertical_edges : (p : Position) → places.vertical_edge p ≡ None
-    pub corners : (p : Position) → places.corner p ≡ None
+  pub record HasNoCellParts (parts : BorderParts T) : Type 0 where
+    pub horizontal_edges : (p : Position) → parts.horizontal_edge p ≡ None
+    pub vertical_edges : (p : Position) → parts.vertical_edge p ≡ None
+    pub corners : (p : Position) → parts.corner p ≡ None
 
   -- ---- what is found: the first that is set
 
@@ -91,17 +91,17 @@ module _ {T : Type 0} where
 
   -- the edge, the line's main part, the frame's part, the global value
   abbrev pub found_vertical : BorderParts T → Position → ℕ → Option T
-  found_vertical places p count =
-      option_or (places.vertical_edge p)
-      (option_or (option_and_then (λ line. line.main) (places.vertical_line p.col))
-      (option_or (frame_vertical places.frame p.col count) places.global))
+  found_vertical parts p count =
+      option_or (parts.vertical_edge p)
+      (option_or (option_and_then (λ line. line.main) (parts.vertical_line p.col))
+      (option_or (frame_vertical parts.frame p.col count) parts.global))
 
   -- at a horizontal edge, likewise
   abbrev pub found_horizontal : BorderParts T → Position → ℕ → Option T
-  found_horizontal places p count =
-      option_or (places.horizontal_edge p)
-      (option_or (option_and_then (λ line. line.main) (places.horizontal_line p.row))
-      (option_or (frame_horizontal places.frame p.row count) places.global))
+  found_horizontal parts p count =
+      option_or (parts.horizontal_edge p)
+      (option_or (option_and_then (λ line. line.main) (parts.horizontal_line p.row))
+      (option_or (frame_horizontal parts.frame p.row count) parts.global))
 
   -- a part that counts only where the test holds
   abbrev pub only_if : Bool → Option T → Option T
@@ -110,9 +110,9 @@ module _ {T : Type 0} where
   -- the part of a line where others cross it. It is its first end at 0, its last end at the count,
   -- or its crossing where it is at neither
   abbrev pub crossing_part : ℕ → ℕ → Option T → Option T → Option T → Option T
-  crossing_part place count first end inner =
-      option_or (only_if (place == 0) first)
-      (option_or (only_if (place == count) end) (only_if (not (place == 0) && not (place == count)) inner))
+  crossing_part index count first end inner =
+      option_or (only_if (index == 0) first)
+      (option_or (only_if (index == count) end) (only_if (not (index == 0) && not (index == count)) inner))
 
   -- the part of a horizontal line at its crossing with the vertical line c
   abbrev pub of_horizontal_line : ℕ → ℕ → HorizontalLine T → Option T
@@ -136,35 +136,35 @@ module _ {T : Type 0} where
 
   -- at a crossing: the corner, a part of either line, the part of the frame, the global value
   abbrev pub found_intersection : BorderParts T → Position → ℕ → ℕ → Option T
-  found_intersection places p rows cols =
-      option_or (places.corner p)
-      (option_or (option_and_then (of_horizontal_line p.col cols) (places.horizontal_line p.row))
-      (option_or (option_and_then (of_vertical_line p.row rows) (places.vertical_line p.col))
-      (option_or (of_frame places.frame p rows cols) places.global)))
+  found_intersection parts p rows cols =
+      option_or (parts.corner p)
+      (option_or (option_and_then (of_horizontal_line p.col cols) (parts.horizontal_line p.row))
+      (option_or (option_and_then (of_vertical_line p.row rows) (parts.vertical_line p.col))
+      (option_or (of_frame parts.frame p rows cols) parts.global)))
 
   -- the eight parts round a cell
   abbrev pub found_border : BorderParts T → Position → ℕ → ℕ → Border T
-  found_border places p rows cols = record {
-    top = found_horizontal places p rows;
-    bottom = found_horizontal places (below p) rows;
-    left = found_vertical places p cols;
-    right = found_vertical places (right_of p) cols;
-    left_top_corner = found_intersection places p rows cols;
-    left_bottom_corner = found_intersection places (below p) rows cols;
-    right_top_corner = found_intersection places (right_of p) rows cols;
-    right_bottom_corner = found_intersection places (below (right_of p)) rows cols;
+  found_border parts p rows cols = record {
+    top = found_horizontal parts p rows;
+    bottom = found_horizontal parts (below p) rows;
+    left = found_vertical parts p cols;
+    right = found_vertical parts (right_of p) cols;
+    left_top_corner = found_intersection parts p rows cols;
+    left_bottom_corner = found_intersection parts (below p) rows cols;
+    right_top_corner = found_intersection parts (right_of p) rows cols;
+    right_bottom_corner = found_intersection parts (below (right_of p)) rows cols;
   }
 
   -- ---- which lines there are
 
   -- a line that ends here has its first end set, or one that ends there its last end
   abbrev pub HasEnd : ℕ → ℕ → Option T → Option T → Type 0
-  HasEnd place count first end = ((place ≡ 0) × IsSome first) ⊎ ((place ≡ count) × IsSome end)
+  HasEnd index count first end = ((index ≡ 0) × IsSome first) ⊎ ((index ≡ count) × IsSome end)
 
   -- one of the lines does
   abbrev pub EndsThere : {L : Type 0} → (ℕ → Option L) → (L → Option T) → (L → Option T) → ℕ → ℕ → Type 0
-  EndsThere {L = L} lines first end place count =
-      (n : ℕ) × (line : L) × (lines n ≡ Some line) × HasEnd place count (first line) (end line)
+  EndsThere {L = L} lines first end index count =
+      (n : ℕ) × (line : L) × (lines n ≡ Some line) × HasEnd index count (first line) (end line)
 
   -- something is at a position on the line n of a direction
   abbrev pub StandsOn : Direction → ℕ → (Position → Option T) → Type 0
@@ -172,14 +172,14 @@ module _ {T : Type 0} where
 
   -- the line n of a direction has an end of a line across, a line, an edge or a corner
   abbrev pub IsSet : Direction → BorderParts T → ℕ → ℕ → Type 0
-  IsSet Columns places n count =
-      EndsThere places.horizontal_line (λ line. line.left) (λ line. line.right) n count
-      ⊎ IsSome (places.vertical_line n)
-      ⊎ StandsOn Columns n places.vertical_edge ⊎ StandsOn Columns n places.corner
-  IsSet Rows places n count =
-      EndsThere places.vertical_line (λ line. line.top) (λ line. line.bottom) n count
-      ⊎ IsSome (places.horizontal_line n)
-      ⊎ StandsOn Rows n places.horizontal_edge ⊎ StandsOn Rows n places.corner
+  IsSet Columns parts n count =
+      EndsThere parts.horizontal_line (λ line. line.left) (λ line. line.right) n count
+      ⊎ IsSome (parts.vertical_line n)
+      ⊎ StandsOn Columns n parts.vertical_edge ⊎ StandsOn Columns n parts.corner
+  IsSet Rows parts n count =
+      EndsThere parts.vertical_line (λ line. line.top) (λ line. line.bottom) n count
+      ⊎ IsSome (parts.horizontal_line n)
+      ⊎ StandsOn Rows n parts.horizontal_edge ⊎ StandsOn Rows n parts.corner
 
   -- whether the frame has a part for the line n of a direction
   abbrev pub in_frame : Direction → Borders T → ℕ → ℕ → Bool
@@ -188,10 +188,10 @@ module _ {T : Type 0} where
 
   -- there is a vertical line c of count: the global value, the frame, or one of the above
   abbrev pub HasVertical : BorderParts T → ℕ → ℕ → Type 0
-  HasVertical places c count =
-      IsSome places.global ⊎ (in_frame Columns places.frame c count ≡ true) ⊎ IsSet Columns places c count
+  HasVertical parts c count =
+      IsSome parts.global ⊎ (in_frame Columns parts.frame c count ≡ true) ⊎ IsSet Columns parts c count
 
   -- there is a horizontal line r of count, likewise
   abbrev pub HasHorizontal : BorderParts T → ℕ → ℕ → Type 0
-  HasHorizontal places r count =
-      IsSome places.global ⊎ (in_frame Rows places.frame r count ≡ true) ⊎ IsSet Rows places r count
+  HasHorizontal parts r count =
+      IsSome parts.global ⊎ (in_frame Rows parts.frame r count ≡ true) ⊎ IsSet Rows parts r count

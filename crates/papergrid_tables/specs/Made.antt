@@ -26,13 +26,13 @@ module _ {T : Type 0} where
   abbrev pub borders_made : List (BorderCall T) → StoredBorders T
   borders_made calls =
       let newest_first = reverse calls in
-      let places = parts_from newest_first in
+      let parts = parts_from newest_first in
       record {
-        global = places.global;
-        frame = places.frame;
-        horizontal_lines = tabulation places.horizontal_line (flat_map named_rows newest_first);
-        vertical_lines = tabulation places.vertical_line (flat_map named_columns newest_first);
-        horizontal_edges = tabulation places.horizontal_edge (flat_map named_positions newest_first);
-        vertical_edges = tabulation places.vertical_edge (flat_map named_positions newest_first);
-        corners = tabulation places.corner (flat_map named_positions newest_first);
+        global = parts.global;
+        frame = parts.frame;
+        horizontal_lines = tabulation parts.horizontal_line (flat_map named_rows newest_first);
+        vertical_lines = tabulation parts.vertical_line (flat_map named_columns newest_first);
+        horizontal_edges = tabulation parts.horizontal_edge (flat_map named_positions newest_first);
+        vertical_edges = tabulation parts.vertical_edge (flat_map named_positions newest_first);
+        corners = tabulation parts.corner (flat_map named_positions newest_first);
       }

@@ -7,7 +7,7 @@ ghost use Rattle.papergrid_tables.specs.BorderCalls.{below, right_of, is_edge_of
 ghost use Rattle.papergrid_tables.specs.ForProofs.CountedParts.{AreCornersCounted, AreEdgesCounted, HasCornerRoom, HasEdgeRoom};
 ghost use Rattle.papergrid_tables.specs.ForProofs.CountedLines.{is_stored, reaches};
 ghost use Rattle.papergrid_tables.specs.ForProofs.Maps.{Gains, HoldsAsBefore, Loses};
-ghost use Rattle.papergrid_tables.specs.BorderParts as places;
+ghost use Rattle.papergrid_tables.specs.BorderParts as border_parts;
 
 use crate::counted_lines::Lines;
 use crate::counted_parts::{Corners, Edges};
@@ -40,7 +40,7 @@ pub(crate) fn horizontal_main<T>(
 /// The part of a row's line where a column crosses it, in a table of so many columns.
 pub(crate) fn row_part<T>(line: Option<&HorizontalLine<T>>, col: usize, cols: usize) -> Option<&T>
     ensures { option_copied result
-        ≡ option_and_then (places.of_horizontal_line col cols) (option_copied line.entry) }
+        ≡ option_and_then (border_parts.of_horizontal_line col cols) (option_copied line.entry) }
 {
     let line = line?;
     crossed(col, cols, &line.left, &line.right, &line.intersection)
@@ -49,36 +49,37 @@ pub(crate) fn row_part<T>(line: Option<&HorizontalLine<T>>, col: usize, cols: us
 /// The part of a column's line where a row crosses it, in a table of so many rows.
 pub(crate) fn column_part<T>(line: Option<&VerticalLine<T>>, row: usize, rows: usize) -> Option<&T>
     ensures { option_copied result
-        ≡ option_and_then (places.of_vertical_line row rows) (option_copied line.entry) }
+        ≡ option_and_then (border_parts.of_vertical_line row rows) (option_copied line.entry) }
 {
     let line = line?;
     crossed(row, rows, &line.top, &line.bottom, &line.intersection)
 }
 
-// The first part that is set, of those that count at a place of a line.
+// The first part that is set, of those that count at an index of a line.
 fn crossed<'a, T>(
-    place: usize,
+    index: usize,
     count: usize,
     first: &'a Option<T>,
     end: &'a Option<T>,
     inner: &'a Option<T>,
 ) -> Option<&'a T>
-    ensures { option_copied result ≡ places.crossing_part place count first.now end.now inner.now }
+    ensures { option_copied result
+        ≡ border_parts.crossing_part index count first.now end.now inner.now }
 {
-    only_if(place == 0, first)
-        .or(only_if(place == count, end))
-        .or(only_if((place != 0) & (place != count), inner))
+    only_if(index == 0, first)
+        .or(only_if(index == count, end))
+        .or(only_if((index != 0) & (index != count), inner))
 }
 
 fn only_if<T>(counts: bool, part: &Option<T>) -> Option<&T>
-    ensures { option_copied result ≡ places.only_if counts part.now }
+    ensures { option_copied result ≡ border_parts.only_if counts part.now }
 {
     if counts { part.as_ref() } else { None }
 }
 
 /// The frame's part for the vertical line at a column.
 pub(crate) fn frame_vertical<T>(frame: &Borders<T>, col: usize, count: usize) -> Option<&T>
-    ensures { option_copied result ≡ places.frame_vertical frame.now col count }
+    ensures { option_copied result ≡ border_parts.frame_vertical frame.now col count }
 {
     if col == count {
         frame.right.as_ref()
@@ -91,7 +92,7 @@ pub(crate) fn frame_vertical<T>(frame: &Borders<T>, col: usize, count: usize) ->
 
 /// The frame's part for the horizontal line at a row.
 pub(crate) fn frame_horizontal<T>(frame: &Borders<T>, row: usize, count: usize) -> Option<&T>
-    ensures { option_copied result ≡ places.frame_horizontal frame.now row count }
+    ensures { option_copied result ≡ border_parts.frame_horizontal frame.now row count }
 {
     if row == 0 {
         frame.top.as_ref()
@@ -108,7 +109,7 @@ pub(crate) fn of_frame<T>(
     position: Position,
     shape: (usize, usize),
 ) -> Option<&T>
-    ensures { option_copied result ≡ places.of_frame frame.now position shape.0 shape.1 }
+    ensures { option_copied result ≡ border_parts.of_frame frame.now position shape.0 shape.1 }
 {
     let (rows, cols) = shape;
     if position.row == 0 && position.col == 0 {
@@ -134,7 +135,7 @@ pub(crate) fn of_frame<T>(
 
 /// Whether the frame has a part for the vertical line at a column.
 pub(crate) fn in_frame_vertical<T>(frame: &Borders<T>, col: usize, count: usize) -> bool
-    ensures { result ≡ places.in_frame Columns frame.now col count }
+    ensures { result ≡ border_parts.in_frame Columns frame.now col count }
 {
     if 0 < col && col < count {
         return frame.has_vertical();
@@ -144,7 +145,7 @@ pub(crate) fn in_frame_vertical<T>(frame: &Borders<T>, col: usize, count: usize)
 
 /// Whether the frame has a part for the horizontal line at a row.
 pub(crate) fn in_frame_horizontal<T>(frame: &Borders<T>, row: usize, count: usize) -> bool
-    ensures { result ≡ places.in_frame Rows frame.now row count }
+    ensures { result ≡ border_parts.in_frame Rows frame.now row count }
 {
     if 0 < row && row < count {
         return frame.has_horizontal();
@@ -152,18 +153,18 @@ pub(crate) fn in_frame_horizontal<T>(frame: &Borders<T>, row: usize, count: usiz
     (row == 0 && frame.has_top()) || (row == count && frame.has_bottom())
 }
 
-/// Whether one of the first lines, which are those across, ends at a place of so many with that end
+/// Whether one of the first lines, which are those across, ends at an index of so many with that end
 /// set, or there one of the second lines is stored, or one of the counts, which are those of the
 /// edges and of the corners, is above 0.
 pub(crate) fn is_set_at<A, L>(
-    place: (usize, usize),
+    index: (usize, usize),
     lines: (&Lines<A>, &Lines<L>),
     counts: (&LineCounts, &LineCounts),
 ) -> bool
-    ensures { result ≡ (reaches place.0 place.1 lines.entry.0.now
-        || is_stored lines.entry.1.now.values counts.entry.0.now counts.entry.1.now place.0) }
+    ensures { result ≡ (reaches index.0 index.1 lines.entry.0.now
+        || is_stored lines.entry.1.now.values counts.entry.0.now counts.entry.1.now index.0) }
 {
-    lines.0.reach(place.0, place.1) || is_stored_at(place.0, &lines.1.values, counts)
+    lines.0.reach(index.0, index.1) || is_stored_at(index.0, &lines.1.values, counts)
 }
 
 // Most tables hold none at all.

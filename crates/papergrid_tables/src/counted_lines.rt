@@ -99,12 +99,12 @@ impl<L> Lines<L> {
         }
     }
 
-    /// Whether a line that ends at a place has that end set: the first ends stand at 0, the last
+    /// Whether a line that ends at an index has that end set: the first ends stand at 0, the last
     /// ones at the count.
-    pub(crate) fn reach(&self, place: usize, count: usize) -> bool
-        ensures { result ≡ reaches place count self.now }
+    pub(crate) fn reach(&self, index: usize, count: usize) -> bool
+        ensures { result ≡ reaches index count self.now }
     {
-        (place == 0 && self.first_ends > 0) || (place == count && self.last_ends > 0)
+        (index == 0 && self.first_ends > 0) || (index == count && self.last_ends > 0)
     }
 
     // Counts the ends of a line in place of those of an old one.

@@ -4,7 +4,7 @@ ghost use Rattle.std.specs.Prelude.{◌≡◌, ◌+◌, ◌<◌, ◌≤◌, ◌^
 ghost use Rattle.std.specs.HashMap.{spare, keys};
 ghost use Rattle.papergrid_values.specs.Positions.{along};
 ghost use Rattle.papergrid_values.specs.declared.direction.Direction.{Direction};
-ghost use Rattle.papergrid_tables.specs.BorderCalls.{at_place};
+ghost use Rattle.papergrid_tables.specs.BorderCalls.{at_position};
 ghost use Rattle.papergrid_tables.specs.ForProofs.CountedParts.{AreEdgesCounted, AreCornersCounted, HasEdgeRoom, HasCornerRoom};
 ghost use Rattle.papergrid_tables.specs.ForProofs.Counts.{number_on, one_if};
 ghost use Rattle.papergrid_tables.specs.ForProofs.Maps.{Gains, HoldsAsBefore, Loses};
@@ -76,26 +76,26 @@ impl<T> Edges<T> {
 
 impl<T: Drop> Edges<T> {
     /// Writes an edge if it is set, where there is room. The counts are those along the direction.
-    pub(crate) fn put(&mut self, direction: Direction, place: Position, part: Option<T>)
+    pub(crate) fn put(&mut self, direction: Direction, position: Position, part: Option<T>)
         requires room { HasEdgeRoom 1 self.old }
         requires counted { AreEdgesCounted direction self.old }
-        ensures written { Gains (λ q. at_place place q part) self.old.values self.new.values }
+        ensures written { Gains (λ q. at_position position q part) self.old.values self.new.values }
         ensures room { (n : ℕ) → HasEdgeRoom (n + 1) self.old → HasEdgeRoom n self.new }
         ensures counted { AreEdgesCounted direction self.new }
     {
-        if put_part(&mut self.values, place, part) {
-            self.on_lines.add(direction.number_of(place));
+        if put_part(&mut self.values, position, part) {
+            self.on_lines.add(direction.number_of(position));
         }
     }
 
     /// Drops an edge. The counts are those along the direction.
-    pub(crate) fn take(&mut self, direction: Direction, place: Position)
+    pub(crate) fn take(&mut self, direction: Direction, position: Position)
         requires { AreEdgesCounted direction self.old }
-        ensures taken { Loses (position_eq place) self.old.values self.new.values }
+        ensures taken { Loses (position_eq position) self.old.values self.new.values }
         ensures counted { AreEdgesCounted direction self.new }
     {
-        if take_part(&mut self.values, place) {
-            self.on_lines.remove(direction.number_of(place));
+        if take_part(&mut self.values, position) {
+            self.on_lines.remove(direction.number_of(position));
         }
     }
 }
@@ -127,39 +127,39 @@ impl<T> Corners<T> {
 
 impl<T: Drop> Corners<T> {
     /// Writes a corner if it is set, where there is room.
-    pub(crate) fn put(&mut self, place: Position, part: Option<T>)
+    pub(crate) fn put(&mut self, position: Position, part: Option<T>)
         requires room { HasCornerRoom 1 self.old }
         requires counted { AreCornersCounted self.old }
-        ensures written { Gains (λ q. at_place place q part) self.old.values self.new.values }
+        ensures written { Gains (λ q. at_position position q part) self.old.values self.new.values }
         ensures room { (n : ℕ) → HasCornerRoom (n + 1) self.old → HasCornerRoom n self.new }
         ensures counted { AreCornersCounted self.new }
     {
-        if put_part(&mut self.values, place, part) {
-            self.in_rows.add(place.row);
-            self.in_columns.add(place.col);
+        if put_part(&mut self.values, position, part) {
+            self.in_rows.add(position.row);
+            self.in_columns.add(position.col);
         }
     }
 
     /// Drops a corner.
-    pub(crate) fn take(&mut self, place: Position)
+    pub(crate) fn take(&mut self, position: Position)
         requires { AreCornersCounted self.old }
-        ensures taken { Loses (position_eq place) self.old.values self.new.values }
+        ensures taken { Loses (position_eq position) self.old.values self.new.values }
         ensures counted { AreCornersCounted self.new }
     {
-        if take_part(&mut self.values, place) {
-            self.in_rows.remove(place.row);
-            self.in_columns.remove(place.col);
+        if take_part(&mut self.values, position) {
+            self.in_rows.remove(position.row);
+            self.in_columns.remove(position.col);
         }
     }
 }
 
-// Writes a part if it is set, where there is room, and tells whether its place had none.
-fn put_part<T: Drop>(map: &mut HashMap<Position, T>, place: Position, part: Option<T>) -> bool
+// Writes a part if it is set, where there is room, and tells whether its position had none.
+fn put_part<T: Drop>(map: &mut HashMap<Position, T>, position: Position, part: Option<T>) -> bool
     requires room { 0 < spare map.old }
-    ensures written { Gains (λ q. at_place place q part) map.old map.new }
+    ensures written { Gains (λ q. at_position position q part) map.old map.new }
     ensures spare { spare map.old ≤ spare map.new + 1 }
     ensures more { (direction : Direction) (n : ℕ) → number_on direction n (keys map.new)
-        ≡ number_on direction n (keys map.old) + one_if (result && along direction place == n) }
+        ≡ number_on direction n (keys map.old) + one_if (result && along direction position == n) }
     ensures fits { (direction : Direction) (n : ℕ) →
         number_on direction n (keys map.old) + 1 < 2 ^ 64 }
 {
@@ -168,18 +168,18 @@ fn put_part<T: Drop>(map: &mut HashMap<Position, T>, place: Position, part: Opti
     let Some(value) = part else {
         return false;
     };
-    match map.insert(place, value) {
+    match map.insert(position, value) {
         Ok(old) => old.is_none(),
         Err(_) => unreachable!(),
     }
 }
 
 // Drops a part, and tells whether there was one.
-fn take_part<T: Drop>(map: &mut HashMap<Position, T>, place: Position) -> bool
-    ensures taken { Loses (position_eq place) map.old map.new }
+fn take_part<T: Drop>(map: &mut HashMap<Position, T>, position: Position) -> bool
+    ensures taken { Loses (position_eq position) map.old map.new }
     ensures less { (direction : Direction) (n : ℕ) →
-        number_on direction n (keys map.new) + one_if (result && along direction place == n)
+        number_on direction n (keys map.new) + one_if (result && along direction position == n)
         ≡ number_on direction n (keys map.old) }
 {
-    map.remove(&place).is_some()
+    map.remove(&position).is_some()
 }

@@ -1,4 +1,4 @@
-//! Tables of places: values for the lines, edges and corners of a table, and for offsets of its
+//! Tables of parts: values for the lines, edges and corners of a table, and for offsets of its
 //! positions.
 #![tactic(auto)]
 

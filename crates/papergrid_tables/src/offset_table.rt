@@ -122,8 +122,8 @@ impl<T> OffsetTable<T> {
     }
 
     /// The value of a position at an offset from the start, where the end stands so far from it:
-    /// the one stored at this offset from the start, else the one stored at the same place
-    /// counted from the end, 0 being the last place before it.
+    /// the one stored at this offset from the start, else the one stored for that character
+    /// from the end, 0 being the last before it.
     pub fn lookup(&self, position: Position, offset: usize, end: usize) -> Option<&T>
         ensures { option_copied result ≡ found_override (override_at self.now position) offset end }
     {

@@ -12,11 +12,11 @@ module _ {T : Type 0} where
   abbrev pub rows_held : VecRecords T → Vec (Vec T Global) Global
   rows_held r = r.rows
 
-  -- the number of rows that is told
+  -- the number of rows that is given
   abbrev pub row_count : VecRecords T → ℕ
   row_count r = r.count_rows
 
-  -- the number of columns that is told
+  -- the number of columns that is given
   abbrev pub column_count : VecRecords T → ℕ
   column_count r = r.count_cols
 

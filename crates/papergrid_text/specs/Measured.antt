@@ -2,7 +2,7 @@
 use Rattle.std.specs.Prelude.{ℕ, List}
 use Rattle.papergrid_text.specs.Text.{greatest_width, cached_by_new, split_lines}
 
--- what is told of a measured text
+-- what is known of a measured text
 pub record Measured (S : Type 0) : Type 0 where
   pub text : S
   pub width : ℕ

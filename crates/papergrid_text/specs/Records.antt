@@ -1,4 +1,4 @@
--- What records tell: a finite list of rows, each a finite list of cells, as the contracts of their
+-- What records yield: a finite list of rows, each a finite list of cells, as the contracts of their
 -- iterators tell it.
 use Rattle.std.specs.Prelude.{◌<◌, ◌^◌, List, length, Option, Some}
 use Rattle.std.specs.List.{AllZip}
@@ -28,6 +28,6 @@ pub record GivesRows {W S Row T Cell : Type 0} (into : W → S → Type 0) (step
   pub walk : Gives into steps w rows
   pub each : AllZip (Gives row_into row_steps) rows cells
 
--- records tell rows of which P holds
+-- records yield rows of which P holds
 abbrev pub TellsRows : {R Cell : Type 0} → (R → List (List Cell) → Type 0) → R → (List (List Cell) → Type 0) → Type 0
 TellsRows {Cell = Cell} tells records P = (rows : List (List Cell)) × tells records rows × P rows

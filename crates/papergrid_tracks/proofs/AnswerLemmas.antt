@@ -90,7 +90,7 @@ module _ {line : ℕ → Bool} {n : ℕ} {kept : Demands} {demands : List Demand
           all
 
   pub IsRefused-refuses : (e : LayoutError) → Refuses ((boundary : ℕ → ℕ) → AreLaid base asking boundary → 18446744073709551616 ≤ boundary (length base) + all_lines drawn (length base)) e → IsRefused Least (problem_of_demands line n demands) e
-  IsRefused-refuses (OutOfTable place) refused = absurd refused
+  IsRefused-refuses (OutOfTable position) refused = absurd refused
   IsRefused-refuses TooLarge refused = past refused
   IsRefused-refuses (Memory e) refused = tt
 
@@ -160,9 +160,9 @@ module _ {line : ℕ → Bool} {n : ℕ} {kept : Demands} {demands : List Demand
         boundary_at = lowest_position-is line drawn n is_kept.limit demands begun.drawn table is_kept.below base base_is begun.many limits.lowest_position.items lowest_position-asking;
       }
 
--- where the demands stand in order, these are the places that certify the sizes
+-- where the demands stand in order, these are the positions that certify the sizes
 pub Certifies-in_order : (sizing : Sizing) (problem : Problem) (certificate : Option (Vec Position Global)) → StandInOrder problem.demands →
     CertifiesInOrder sizing problem certificate → Certifies sizing problem certificate
 Certifies-in_order ByShares problem certificate ordered is = is
 Certifies-in_order Least problem None ordered none = none
-Certifies-in_order Least problem (Some places) ordered critical_path = critical_path ordered
+Certifies-in_order Least problem (Some positions) ordered critical_path = critical_path ordered

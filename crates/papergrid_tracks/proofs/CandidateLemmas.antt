@@ -12,15 +12,15 @@ use Rattle.papergrid_tracks.specs.ForProofs.Checks.{AreDisjointAt, AreInOrder}
 use Rattle.papergrid_values.specs.Positions.{AreRising, along}
 
 -- one more position, where each is related to the next
-module _ (R : Position → Position → Type 0) (R-trans : (p q r : Position) → R p q → R q r → R p r) (places : List Position) (i : ℕ) (one : 1 ≤ i)
-    (before : (j k : ℕ) (p : Position) → j < k → k < i → R (get_or places j p) (get_or places k p)) (next : (p : Position) → R (get_or places (i - 1) p) (get_or places i p)) where
-  pub chain-more : (j k : ℕ) (p : Position) → j < k → k < i + 1 → R (get_or places j p) (get_or places k p)
+module _ (R : Position → Position → Type 0) (R-trans : (p q r : Position) → R p q → R q r → R p r) (positions : List Position) (i : ℕ) (one : 1 ≤ i)
+    (before : (j k : ℕ) (p : Position) → j < k → k < i → R (get_or positions j p) (get_or positions k p)) (next : (p : Position) → R (get_or positions (i - 1) p) (get_or positions i p)) where
+  pub chain-more : (j k : ℕ) (p : Position) → j < k → k < i + 1 → R (get_or positions j p) (get_or positions k p)
   chain-more j k p lt lt' = elim (cases_eq k i) [
     | inr ne ↦ before j k p lt (omega arith)
     | inl same ↦ elim (cases_eq j (i - 1)) [
-      | inl last ↦ subst (λ m. R (get_or places j p) (get_or places m p)) (sym same) (subst (λ m. R (get_or places m p) (get_or places i p)) (sym last) (next p))
-      | inr ne ↦ subst (λ m. R (get_or places j p) (get_or places m p)) (sym same)
-          (R-trans (get_or places j p) (get_or places (i - 1) p) (get_or places i p) (before j (i - 1) p (omega arith) (omega arith)) (next p))
+      | inl last ↦ subst (λ m. R (get_or positions j p) (get_or positions m p)) (sym same) (subst (λ m. R (get_or positions m p) (get_or positions i p)) (sym last) (next p))
+      | inr ne ↦ subst (λ m. R (get_or positions j p) (get_or positions m p)) (sym same)
+          (R-trans (get_or positions j p) (get_or positions (i - 1) p) (get_or positions i p) (before j (i - 1) p (omega arith) (omega arith)) (next p))
     ]
   ]
 
@@ -32,11 +32,11 @@ AreInOrder-trans direction span_of p q r a b =
     (omega arith, omega arith)
 
 -- the numbers rise, and no two ranges meet
-pub rising-from_order : (direction : Direction) (span_of : Position → ℕ) (places : List Position) → AllPairs (AreInOrder direction span_of) places → AllPairs (AreRising direction) places
-rising-from_order direction span_of places h i j p l l' = (h i j p l l').0
+pub rising-from_order : (direction : Direction) (span_of : Position → ℕ) (positions : List Position) → AllPairs (AreInOrder direction span_of) positions → AllPairs (AreRising direction) positions
+rising-from_order direction span_of positions h i j p l l' = (h i j p l l').0
 
-pub disjoint-from_order : (direction : Direction) (span_of : Position → ℕ) (places : List Position) → AllPairs (AreInOrder direction span_of) places → AllPairs (AreDisjointAt direction span_of) places
-disjoint-from_order direction span_of places h i j p l l' = inl (h i j p l l').1
+pub disjoint-from_order : (direction : Direction) (span_of : Position → ℕ) (positions : List Position) → AllPairs (AreInOrder direction span_of) positions → AllPairs (AreDisjointAt direction span_of) positions
+disjoint-from_order direction span_of positions h i j p l l' = inl (h i j p l l').1
 
 -- ---- how often a test holds that holds at one index at most
 
@@ -76,47 +76,47 @@ along-same Rows p q t = eqb-true p.row q.row (and_parts (p.row == q.row) (p.col 
 other_number : (direction : Direction) (p q : Position) → (along direction p ≡ along direction q → ⊥) → is_same p q ≡ false
 other_number direction p q ne = elim (cases_Bool (is_same p q)) [ inl t ↦ absurd (ne (along-same direction p q t)) | inr f ↦ f ]
 
-pub never_falls : (direction : Direction) (places : List Position) → AllPairs (AreRising direction) places → IsNonDecreasingBy (along direction) places
-never_falls direction places rising i j d le l = elim (cases_eq i j) [
-  | inl e ↦ subst (λ k. along direction (get_or places i d) ≤ along direction (get_or places k d)) e (omega arith)
-  | inr ne ↦ let lt : along direction (get_or places i d) < along direction (get_or places j d) = rising i j d (omega arith) l in omega arith
+pub never_falls : (direction : Direction) (positions : List Position) → AllPairs (AreRising direction) positions → IsNonDecreasingBy (along direction) positions
+never_falls direction positions rising i j d le l = elim (cases_eq i j) [
+  | inl e ↦ subst (λ k. along direction (get_or positions i d) ≤ along direction (get_or positions k d)) e (omega arith)
+  | inr ne ↦ let lt : along direction (get_or positions i d) < along direction (get_or positions j d) = rising i j d (omega arith) l in omega arith
 ]
 
 -- the position at an index has that very number, so all before it have lesser ones
-pub point-guess : (direction : Direction) (places : List Position) (start : ℕ) (e : Position) → AllPairs (AreRising direction) places → start < length places → along direction (get_or places start e) ≡ start →
-    IsPartitionPoint (λ p. nat_lt (along direction p) start ≡ true) (λ p. nat_lt (along direction p) start ≡ false) places start
-point-guess direction places start e rising l is = (
+pub point-guess : (direction : Direction) (positions : List Position) (start : ℕ) (e : Position) → AllPairs (AreRising direction) positions → start < length positions → along direction (get_or positions start e) ≡ start →
+    IsPartitionPoint (λ p. nat_lt (along direction p) start ≡ true) (λ p. nat_lt (along direction p) start ≡ false) positions start
+point-guess direction positions start e rising l is = (
   (λ k d low lt.
-      let below : along direction (get_or places k d) < along direction (get_or places start d) = rising k start d lt l in
-      let there : along direction (get_or places start d) ≡ start = ap (along direction) (get_or_default places start d e l) ∙ is in
+      let below : along direction (get_or positions k d) < along direction (get_or positions start d) = rising k start d lt l in
+      let there : along direction (get_or positions start d) ≡ start = ap (along direction) (get_or_default positions start d e l) ∙ is in
       lt-ltb _ _ (omega (arith, below, there))),
   (λ k d le lk.
-      let there : along direction (get_or places start d) ≡ start = ap (along direction) (get_or_default places start d e l) ∙ is in
+      let there : along direction (get_or positions start d) ≡ start = ap (along direction) (get_or_default positions start d e l) ∙ is in
       elim (cases_eq k start) [
         | inl same ↦
-            let at : along direction (get_or places k d) ≡ start = ap (λ j. along direction (get_or places j d)) same ∙ there in
+            let at : along direction (get_or positions k d) ≡ start = ap (λ j. along direction (get_or positions j d)) same ∙ there in
             le-ltb _ _ (omega (arith, at))
         | inr ne ↦
-            let above : along direction (get_or places start d) < along direction (get_or places k d) = rising start k d (omega arith) lk in
+            let above : along direction (get_or positions start d) < along direction (get_or positions k d) = rising start k d (omega arith) lk in
             le-ltb _ _ (omega (arith, above, there))
       ]),
 )
 
-module _ (direction : Direction) (places : List Position) (place : Position) (at : ℕ) (rising : AllPairs (AreRising direction) places)
-    (point : IsPartitionPoint (λ p. nat_lt (along direction p) (along direction place) ≡ true) (λ p. nat_lt (along direction p) (along direction place) ≡ false) places at) where
-  before-other : (k : ℕ) (p : Position) → k < at → is_same place (get_or places k p) ≡ false
+module _ (direction : Direction) (positions : List Position) (position : Position) (at : ℕ) (rising : AllPairs (AreRising direction) positions)
+    (point : IsPartitionPoint (λ p. nat_lt (along direction p) (along direction position) ≡ true) (λ p. nat_lt (along direction p) (along direction position) ≡ false) positions at) where
+  before-other : (k : ℕ) (p : Position) → k < at → is_same position (get_or positions k p) ≡ false
   before-other k p l =
-      let below : along direction (get_or places k p) < along direction place = ltb-true (along direction (get_or places k p)) (along direction place) (point.0 k p (omega arith) l) in
-      other_number direction place (get_or places k p) (λ e. omega arith)
+      let below : along direction (get_or positions k p) < along direction position = ltb-true (along direction (get_or positions k p)) (along direction position) (point.0 k p (omega arith) l) in
+      other_number direction position (get_or positions k p) (λ e. omega arith)
 
-  pub listed-none : length places ≤ at → count_by (is_same place) places ≡ 0
-  listed-none le = count_by-none (is_same place) places (λ k p l. before-other k p (omega arith))
+  pub listed-none : length positions ≤ at → count_by (is_same position) positions ≡ 0
+  listed-none le = count_by-none (is_same position) positions (λ k p l. before-other k p (omega arith))
 
-  pub listed-at : (e : Position) → at < length places → count_by (is_same place) places ≡ cond (is_same place (get_or places at e)) 1 0
-  listed-at e l = count_by-one (is_same place) places at e l (λ k p lk way. elim way [
+  pub listed-at : (e : Position) → at < length positions → count_by (is_same position) positions ≡ cond (is_same position (get_or positions at e)) 1 0
+  listed-at e l = count_by-one (is_same position) positions at e l (λ k p lk way. elim way [
     | inl x ↦ before-other k p x
     | inr x ↦
-        let reached : along direction place ≤ along direction (get_or places at p) = ltb-false (along direction (get_or places at p)) (along direction place) (point.1 at p (omega arith) l) in
-        let further : along direction (get_or places at p) < along direction (get_or places k p) = rising at k p x lk in
-        other_number direction place (get_or places k p) (λ e. omega arith)
+        let reached : along direction position ≤ along direction (get_or positions at p) = ltb-false (along direction (get_or positions at p)) (along direction position) (point.1 at p (omega arith) l) in
+        let further : along direction (get_or positions at p) < along direction (get_or positions k p) = rising at k p x lk in
+        other_number direction position (get_or positions k p) (λ e. omega arith)
   ])

@@ -6,7 +6,7 @@ use Rattle.std.proofs.lemmas.List.Elements.{recursion_from_All}
 use Rattle.papergrid_values.specs.declared.position.Position.{Position}
 use Rattle.papergrid_tracks.specs.Answers.{AreCertifying, NoneCertify}
 use Rattle.papergrid_tracks.specs.Problem.{Problem, total_of}
-use Rattle.papergrid_tracks.specs.Ranges.{IsInTable, place_of}
+use Rattle.papergrid_tracks.specs.Ranges.{IsInTable, position_of}
 use Rattle.papergrid_tracks.specs.Sizes.{base_sizes, sizes_of, by_span}
 use Rattle.papergrid_tracks.specs.Certificates.{certificate_cells_of, growing_cells_of}
 use Rattle.papergrid_tracks.specs.ForProofs.LastCells.{AreExact, IsLaminarInOrder}
@@ -23,9 +23,9 @@ use Rattle.papergrid_tracks.proofs.Theorems.{Fits-sizes_of, first_out-none, IsCe
 
 module _ (problem : Problem) (table : All (IsInTable problem.count) problem.demands)
     (total : total_of problem (sizes_of problem) < 18446744073709551616) where
-  pub AreChosen-from_laminar : (places : List Position) → places ≡ map place_of (certificate_cells_of problem) → IsLaminarInOrder (by_span problem.count problem.demands) →
-      AreCertifying problem places
-  AreChosen-from_laminar places e laminar =
+  pub AreChosen-from_laminar : (positions : List Position) → positions ≡ map position_of (certificate_cells_of problem) → IsLaminarInOrder (by_span problem.count problem.demands) →
+      AreCertifying problem positions
+  AreChosen-from_laminar positions e laminar =
       let disjoint = IsLaminar-from_laminar problem.count problem.demands table laminar in
       subst (AreCertifying problem) (sym e) record {
         none_out = first_out-none problem.count problem.demands (recursion_from_All (IsInTable problem.count) problem.demands table);

@@ -12,7 +12,7 @@ use Rattle.papergrid_tracks.specs.declared.demand.Demand.{Demand}
 use Rattle.papergrid_values.specs.declared.direction.Direction.{Direction}
 use Rattle.papergrid_tracks.specs.ForProofs.Checks.{CanHold, Checks, all_listed, times_listed}
 use Rattle.papergrid_tracks.specs.Fits.{HasRoom, range_sum}
-use Rattle.papergrid_tracks.specs.Ranges.{demand_of, end_of, inner_lines, place_of}
+use Rattle.papergrid_tracks.specs.Ranges.{demand_of, end_of, inner_lines, position_of}
 use Rattle.papergrid_tracks.proofs.LoopLemmas.{range_with_len-append}
 
 -- one more number
@@ -38,10 +38,10 @@ count_by-agree f g a (suc m) same =
 
 -- ---- one more cell
 
-all_listed_push : (f : Demand → ℕ) (places : List Position) (ds : List Demand) (d : Demand) → all_listed f places (ds ++ d ∷ []) ≡ all_listed f places ds + f d * times_listed places d
-all_listed_push f places ds d =
-    let a : all_listed f places (ds ++ d ∷ []) ≡ all_listed f places ds + all_listed f places (d ∷ []) = sum_by-append (λ e. f e * times_listed places e) ds (d ∷ []) in
-    let b : all_listed f places (d ∷ []) ≡ f d * times_listed places d + 0 = sum_by-cons (λ e. f e * times_listed places e) d [] in
+all_listed_push : (f : Demand → ℕ) (positions : List Position) (ds : List Demand) (d : Demand) → all_listed f positions (ds ++ d ∷ []) ≡ all_listed f positions ds + f d * times_listed positions d
+all_listed_push f positions ds d =
+    let a : all_listed f positions (ds ++ d ∷ []) ≡ all_listed f positions ds + all_listed f positions (d ∷ []) = sum_by-append (λ e. f e * times_listed positions e) ds (d ∷ []) in
+    let b : all_listed f positions (d ∷ []) ≡ f d * times_listed positions d + 0 = sum_by-cons (λ e. f e * times_listed positions e) d [] in
     omega arith
 
 All_push : (P : Demand → Type 0) (ds : List Demand) (d : Demand) → All P ds → P d → All P (ds ++ d ∷ [])
@@ -55,13 +55,13 @@ All-front P ds d all = let r = go ds (recursion_from_All P (ds ++ d ∷ []) all)
     go [] all = (tt, all.0)
     go (c ∷ ds) all = let r = go ds all.1 in ((all.0, r.0), r.1)
 
-module _ (line : ℕ → Bool) (sizes : List ℕ) (places : List Position) (direction : Direction) (span_of : Position → ℕ) (old : Checked) (ds : List Demand) (d : Demand)
-    (h : Checks line sizes places direction span_of old ds)
-    (ranged : d ≡ demand_of direction (place_of d) (span_of (place_of d)) d.minimum) (one : 1 ≤ d.span) where
-  CanHold-front : CanHold line sizes places (ds ++ d ∷ []) → CanHold line sizes places ds
+module _ (line : ℕ → Bool) (sizes : List ℕ) (positions : List Position) (direction : Direction) (span_of : Position → ℕ) (old : Checked) (ds : List Demand) (d : Demand)
+    (h : Checks line sizes positions direction span_of old ds)
+    (ranged : d ≡ demand_of direction (position_of d) (span_of (position_of d)) d.minimum) (one : 1 ≤ d.span) where
+  CanHold-front : CanHold line sizes positions (ds ++ d ∷ []) → CanHold line sizes positions ds
   CanHold-front can =
-      let e : all_listed (λ _. 1) places (ds ++ d ∷ []) ≡ all_listed (λ _. 1) places ds + 1 * times_listed places d = all_listed_push (λ _. 1) places ds d in
-      let few : all_listed (λ _. 1) places (ds ++ d ∷ []) ≤ length places = can.few in
+      let e : all_listed (λ _. 1) positions (ds ++ d ∷ []) ≡ all_listed (λ _. 1) positions ds + 1 * times_listed positions d = all_listed_push (λ _. 1) positions ds d in
+      let few : all_listed (λ _. 1) positions (ds ++ d ∷ []) ≤ length positions = can.few in
       record {
         table = (All-front (λ e. end_of e ≤ length sizes) ds d can.table).0;
         room = (All-front (HasRoom line sizes) ds d can.room).0;
@@ -69,23 +69,23 @@ module _ (line : ℕ → Bool) (sizes : List ℕ) (places : List Position) (dire
       }
 
   -- the cell has room, and does not make more listed cells than there are positions
-  pub Checks-more : old.holds ≡ true → end_of d ≤ length sizes → HasRoom line sizes d → old.found + times_listed places d ≤ length places → d.minimum ≤ 73786976294838206464 → inner_lines line d ≤ 18446744073709551616 →
-      Checks line sizes places direction span_of
-      (record { holds = true; found = old.found + times_listed places d; minimums = old.minimums + d.minimum * times_listed places d; inner = old.inner + inner_lines line d * times_listed places d }) (ds ++ d ∷ [])
+  pub Checks-more : old.holds ≡ true → end_of d ≤ length sizes → HasRoom line sizes d → old.found + times_listed positions d ≤ length positions → d.minimum ≤ 73786976294838206464 → inner_lines line d ≤ 18446744073709551616 →
+      Checks line sizes positions direction span_of
+      (record { holds = true; found = old.found + times_listed positions d; minimums = old.minimums + d.minimum * times_listed positions d; inner = old.inner + inner_lines line d * times_listed positions d }) (ds ++ d ∷ [])
   Checks-more so ends has few minimum_small inner_small =
       let all = h.holds so in
-      let e : all_listed (λ _. 1) places (ds ++ d ∷ []) ≡ all_listed (λ _. 1) places ds + 1 * times_listed places d = all_listed_push (λ _. 1) places ds d in
-      let found : old.found ≡ all_listed (λ _. 1) places ds = all.found in
-      let minimums : old.minimums ≡ all_listed (λ c. c.minimum) places ds = all.minimums in
-      let inner : old.inner ≡ all_listed (inner_lines line) places ds = all.inner in
-      let n : all_listed (λ c. c.minimum) places (ds ++ d ∷ []) ≡ all_listed (λ c. c.minimum) places ds + d.minimum * times_listed places d = all_listed_push (λ c. c.minimum) places ds d in
-      let i : all_listed (inner_lines line) places (ds ++ d ∷ []) ≡ all_listed (inner_lines line) places ds + inner_lines line d * times_listed places d = all_listed_push (inner_lines line) places ds d in
+      let e : all_listed (λ _. 1) positions (ds ++ d ∷ []) ≡ all_listed (λ _. 1) positions ds + 1 * times_listed positions d = all_listed_push (λ _. 1) positions ds d in
+      let found : old.found ≡ all_listed (λ _. 1) positions ds = all.found in
+      let minimums : old.minimums ≡ all_listed (λ c. c.minimum) positions ds = all.minimums in
+      let inner : old.inner ≡ all_listed (inner_lines line) positions ds = all.inner in
+      let n : all_listed (λ c. c.minimum) positions (ds ++ d ∷ []) ≡ all_listed (λ c. c.minimum) positions ds + d.minimum * times_listed positions d = all_listed_push (λ c. c.minimum) positions ds d in
+      let i : all_listed (inner_lines line) positions (ds ++ d ∷ []) ≡ all_listed (inner_lines line) positions ds + inner_lines line d * times_listed positions d = all_listed_push (inner_lines line) positions ds d in
       let nb : old.minimums ≤ 73786976294838206464 * old.found = h.bounded.minimums in
       let ib : old.inner ≤ 18446744073709551616 * old.found = h.bounded.inner in
-      let nm : d.minimum * times_listed places d ≤ 73786976294838206464 * times_listed places d = mul-le-mul_right (times_listed places d) minimum_small in
-      let im : inner_lines line d * times_listed places d ≤ 18446744073709551616 * times_listed places d = mul-le-mul_right (times_listed places d) inner_small in
+      let nm : d.minimum * times_listed positions d ≤ 73786976294838206464 * times_listed positions d = mul-le-mul_right (times_listed positions d) minimum_small in
+      let im : inner_lines line d * times_listed positions d ≤ 18446744073709551616 * times_listed positions d = mul-le-mul_right (times_listed positions d) inner_small in
       record {
-        ranged = All_push (λ c. c ≡ demand_of direction (place_of c) (span_of (place_of c)) c.minimum) ds d h.ranged ranged;
+        ranged = All_push (λ c. c ≡ demand_of direction (position_of c) (span_of (position_of c)) c.minimum) ds d h.ranged ranged;
         spans = All_push (λ c. 1 ≤ c.span) ds d h.spans one;
         holds = λ so. record {
           table = All_push (λ c. end_of c ≤ length sizes) ds d all.table ends;
@@ -99,10 +99,10 @@ module _ (line : ℕ → Bool) (sizes : List ℕ) (places : List Position) (dire
       }
 
   -- something fails, and with this cell does still
-  pub Checks-fails : (old.holds ≡ true → CanHold line sizes places (ds ++ d ∷ []) → ⊥) →
-      Checks line sizes places direction span_of (record { holds = false; found = old.found; minimums = old.minimums; inner = old.inner }) (ds ++ d ∷ [])
+  pub Checks-fails : (old.holds ≡ true → CanHold line sizes positions (ds ++ d ∷ []) → ⊥) →
+      Checks line sizes positions direction span_of (record { holds = false; found = old.found; minimums = old.minimums; inner = old.inner }) (ds ++ d ∷ [])
   Checks-fails why = record {
-    ranged = All_push (λ c. c ≡ demand_of direction (place_of c) (span_of (place_of c)) c.minimum) ds d h.ranged ranged;
+    ranged = All_push (λ c. c ≡ demand_of direction (position_of c) (span_of (position_of c)) c.minimum) ds d h.ranged ranged;
     spans = All_push (λ c. 1 ≤ c.span) ds d h.spans one;
     holds = λ so. absurd (false≢true so);
     fails = λ so can. elim (cases_Bool old.holds) [
@@ -113,15 +113,15 @@ module _ (line : ℕ → Bool) (sizes : List ℕ) (places : List Position) (dire
   }
 
   -- because it has no room in the table
-  pub none_room : (end_of d ≤ length sizes → HasRoom line sizes d → ⊥) → CanHold line sizes places (ds ++ d ∷ []) → ⊥
+  pub none_room : (end_of d ≤ length sizes → HasRoom line sizes d → ⊥) → CanHold line sizes positions (ds ++ d ∷ []) → ⊥
   none_room none can = none (All-front (λ e. end_of e ≤ length sizes) ds d can.table).1 (All-front (HasRoom line sizes) ds d can.room).1
 
   -- because too many are listed
-  pub too_many : old.holds ≡ true → length places < old.found + times_listed places d → CanHold line sizes places (ds ++ d ∷ []) → ⊥
+  pub too_many : old.holds ≡ true → length positions < old.found + times_listed positions d → CanHold line sizes positions (ds ++ d ∷ []) → ⊥
   too_many so many can =
-      let e : all_listed (λ _. 1) places (ds ++ d ∷ []) ≡ all_listed (λ _. 1) places ds + 1 * times_listed places d = all_listed_push (λ _. 1) places ds d in
-      let found : old.found ≡ all_listed (λ _. 1) places ds = (h.holds so).found in
-      let few : all_listed (λ _. 1) places (ds ++ d ∷ []) ≤ length places = can.few in
+      let e : all_listed (λ _. 1) positions (ds ++ d ∷ []) ≡ all_listed (λ _. 1) positions ds + 1 * times_listed positions d = all_listed_push (λ _. 1) positions ds d in
+      let found : old.found ≡ all_listed (λ _. 1) positions ds = (h.holds so).found in
+      let few : all_listed (λ _. 1) positions (ds ++ d ∷ []) ≤ length positions = can.few in
       omega arith
 
 count_by-le : (line : ℕ → Bool) (a m : ℕ) → count_by line (range_with_len a m) ≤ m

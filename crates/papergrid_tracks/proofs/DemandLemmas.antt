@@ -10,7 +10,7 @@ use Rattle.std.proofs.lemmas.List.{append-nil, map-append}
 use Rattle.std.proofs.lemmas.List.Sums.{fold-append}
 use Rattle.papergrid_tracks.specs.declared.demand.Demand.{Demand}
 use Rattle.papergrid_tracks.specs.Certificates.{exact_single}
-use Rattle.papergrid_tracks.specs.Ranges.{IsInTable, end_of, first_out, place_of}
+use Rattle.papergrid_tracks.specs.Ranges.{IsInTable, end_of, first_out, position_of}
 use Rattle.papergrid_tracks.specs.declared.demands.Demands.{Demands}
 use Rattle.papergrid_tracks.specs.ForProofs.Demands.{HoldsDemands, AreGathered, first_greatest, is_large, is_single, gathered_for, no_demand, rest_of, without_minimum}
 use Rattle.papergrid_tracks.specs.Sizes.{base_size, base_sizes, by_span}
@@ -127,7 +127,7 @@ first_out-rest_of n limit (d ∷ ds) below =
           let one : d.span ≡ 1 = eqb-true d.span 1 (and_parts (eqb d.span 1) (ltb d.start limit) t).0 in
           let within : d.start + d.span ≤ n = omega arith in
           rw (t, le-ltb n (end_of d) within) rest
-      | inr f ↦ rw f (ap (λ r. if nat_lt n (end_of d) then Some (place_of d) else r) rest)
+      | inr f ↦ rw f (ap (λ r. if nat_lt n (end_of d) then Some (position_of d) else r) rest)
     ]
 
 -- a test that a single cell fails finds the same cells among the others

@@ -7,7 +7,7 @@ use Rattle.papergrid_values.specs.declared.position.Position.{Position}
 use Rattle.papergrid_values.specs.Positions.{IsBefore}
 use Rattle.papergrid_tracks.specs.declared.demand.Demand.{Demand}
 use Rattle.papergrid_tracks.specs.ForProofs.Demands.{StandInOrder}
-use Rattle.papergrid_tracks.specs.Ranges.{place_of}
+use Rattle.papergrid_tracks.specs.Ranges.{position_of}
 use Rattle.papergrid_tracks.proofs.Counting.{find-all}
 use Rattle.papergrid_tracks.specs.ForProofs.Followed.{earlier_cell, is_before}
 
@@ -18,7 +18,7 @@ some_none d e = cc
 pub earlier-either : (one other : Option Demand) (d : Demand) → earlier_cell one other ≡ Some d → (one ≡ Some d) ⊎ (other ≡ Some d)
 earlier-either None other d e = inr e
 earlier-either (Some a) None d e = inl e
-earlier-either (Some a) (Some b) d e = elim (cases_Bool (is_before (place_of b) (place_of a))) [
+earlier-either (Some a) (Some b) d e = elim (cases_Bool (is_before (position_of b) (position_of a))) [
   | inl t ↦ let e' : Some b ≡ Some d = rw t at e in inr e'
   | inr f ↦ let e' : Some a ≡ Some d = rw f at e in inl e'
 ]
@@ -35,13 +35,13 @@ before-false p q before = elim before [
   | inr beside ↦ rw (le-ltb q.row p.row (omega arith), eq-eqb q.row p.row (omega arith), le-ltb q.col p.col (omega arith)) refl
 ]
 
-stays-first : (d : Demand) (other : Option Demand) → ((e : Demand) → other ≡ Some e → IsBefore (place_of d) (place_of e)) → earlier_cell (Some d) other ≡ Some d
+stays-first : (d : Demand) (other : Option Demand) → ((e : Demand) → other ≡ Some e → IsBefore (position_of d) (position_of e)) → earlier_cell (Some d) other ≡ Some d
 stays-first d None before = refl
-stays-first d (Some e) before = rw (before-false (place_of d) (place_of e) (before e refl)) refl
+stays-first d (Some e) before = rw (before-false (position_of d) (position_of e) (before e refl)) refl
 
-comes-first : (d : Demand) (one : Option Demand) → ((e : Demand) → one ≡ Some e → IsBefore (place_of d) (place_of e)) → earlier_cell one (Some d) ≡ Some d
+comes-first : (d : Demand) (one : Option Demand) → ((e : Demand) → one ≡ Some e → IsBefore (position_of d) (position_of e)) → earlier_cell one (Some d) ≡ Some d
 comes-first d None before = refl
-comes-first d (Some e) before = rw (before-true (place_of d) (place_of e) (before e refl)) refl
+comes-first d (Some e) before = rw (before-true (position_of d) (position_of e) (before e refl)) refl
 
 -- where the cells stand in order, the earlier of the first of each kind that passes a test is the first of all that do
 pub first-in_order : (test : Demand → Bool) (ds : List Demand) → All (λ d. 1 ≤ d.span) ds → StandInOrder ds →
@@ -63,7 +63,7 @@ first-in_order test (d ∷ ds) spans ordered =
           ]
     ]
   where
-    later : (kind : Demand → Bool) (e : Demand) → find kind ds ≡ Some e → IsBefore (place_of d) (place_of e)
+    later : (kind : Demand → Bool) (e : Demand) → find kind ds ≡ Some e → IsBefore (position_of d) (position_of e)
     later kind e found =
-        (find-all (λ e. IsBefore (place_of d) (place_of e)) kind ds e
-        (recursion_from_All (λ e. IsBefore (place_of d) (place_of e)) ds (λ k e l. ordered 0 (suc k) e (omega arith) (omega arith))) found).1
+        (find-all (λ e. IsBefore (position_of d) (position_of e)) kind ds e
+        (recursion_from_All (λ e. IsBefore (position_of d) (position_of e)) ds (λ k e l. ordered 0 (suc k) e (omega arith) (omega arith))) found).1

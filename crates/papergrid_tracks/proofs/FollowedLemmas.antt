@@ -4,7 +4,7 @@ use Rattle.std.specs.Prelude.{find}
 use Rattle.std.proofs.lemmas.Bool.{cases_eq}
 use Rattle.std.proofs.lemmas.List.{append_assoc, append-nil, drop_more, get_or-set_same, get_or-set_other}
 use Rattle.papergrid_tracks.specs.declared.demand.Demand.{Demand}
-use Rattle.papergrid_tracks.specs.Ranges.{end_of, place_of}
+use Rattle.papergrid_tracks.specs.Ranges.{end_of, position_of}
 use Rattle.papergrid_values.specs.declared.position.Position.{Position}
 use Rattle.papergrid_tracks.specs.ForProofs.Followed.{earlier_cell, followed_cells, with_minimum, is_tight_by}
 use Rattle.papergrid_tracks.specs.CriticalPath.{with_earlier}
@@ -60,25 +60,25 @@ module _ (boundary : ℕ → ℕ) (single : ℕ → Demand) (longer : ℕ → Op
   followed-past past = rw (ne_eqb (boundary i - boundary (i - 1)) 0 past) refl
 
 -- what was met, and what is still to be met from track i on, are all of it
-module _ (boundary : ℕ → ℕ) (single : ℕ → Demand) (longer : ℕ → Option Demand) (size counter i before : ℕ) (places whole : List Position) (left : counter < size) (before_is : before ≡ i - 1)
-    (met : places ++ map place_of (followed_cells boundary single longer (size - counter) i) ≡ whole) where
+module _ (boundary : ℕ → ℕ) (single : ℕ → Demand) (longer : ℕ → Option Demand) (size counter i before : ℕ) (positions whole : List Position) (left : counter < size) (before_is : before ≡ i - 1)
+    (met : positions ++ map position_of (followed_cells boundary single longer (size - counter) i) ≡ whole) where
   steps_are : size - counter ≡ suc (size - (counter + 1))
   steps_are = omega arith
 
-  met_now : places ++ map place_of (followed_cells boundary single longer (suc (size - (counter + 1))) i) ≡ whole
-  met_now = ap (λ s. places ++ map place_of (followed_cells boundary single longer s i)) (sym steps_are) ∙ met
+  met_now : positions ++ map position_of (followed_cells boundary single longer (suc (size - (counter + 1))) i) ≡ whole
+  met_now = ap (λ s. positions ++ map position_of (followed_cells boundary single longer s i)) (sym steps_are) ∙ met
 
-  pub met-even : boundary i - boundary before ≡ 0 → places ++ map place_of (followed_cells boundary single longer (size - (counter + 1)) before) ≡ whole
+  pub met-even : boundary i - boundary before ≡ 0 → positions ++ map position_of (followed_cells boundary single longer (size - (counter + 1)) before) ≡ whole
   met-even even =
-      ap (λ b. places ++ map place_of (followed_cells boundary single longer (size - (counter + 1)) b)) before_is
-      ∙ ap (λ ds. places ++ map place_of ds) (sym (followed-even boundary single longer (size - (counter + 1)) i (ap (λ b. boundary i - boundary b) (sym before_is) ∙ even)))
+      ap (λ b. positions ++ map position_of (followed_cells boundary single longer (size - (counter + 1)) b)) before_is
+      ∙ ap (λ ds. positions ++ map position_of ds) (sym (followed-even boundary single longer (size - (counter + 1)) i (ap (λ b. boundary i - boundary b) (sym before_is) ∙ even)))
       ∙ met_now
 
-  one_more : (d : Demand) (rest : List Demand) → followed_cells boundary single longer (suc (size - (counter + 1))) i ≡ d ∷ rest → (place : Position) → place ≡ place_of d → (places ++ place ∷ []) ++ map place_of rest ≡ whole
-  one_more d rest e place here =
-      append_assoc places (place ∷ []) (map place_of rest)
-      ∙ ap (λ p. places ++ p ∷ map place_of rest) here
-      ∙ ap (λ ds. places ++ map place_of ds) (sym e)
+  one_more : (d : Demand) (rest : List Demand) → followed_cells boundary single longer (suc (size - (counter + 1))) i ≡ d ∷ rest → (position : Position) → position ≡ position_of d → (positions ++ position ∷ []) ++ map position_of rest ≡ whole
+  one_more d rest e position here =
+      append_assoc positions (position ∷ []) (map position_of rest)
+      ∙ ap (λ p. positions ++ p ∷ map position_of rest) here
+      ∙ ap (λ ds. positions ++ map position_of ds) (sym e)
       ∙ met_now
 
   past_now : boundary i - boundary before ≢ 0 →
@@ -87,16 +87,16 @@ module _ (boundary : ℕ → ℕ) (single : ℕ → Demand) (longer : ℕ → Op
       followed-past boundary single longer (size - (counter + 1)) i (λ e. past (ap (λ b. boundary i - boundary b) before_is ∙ e))
       ∙ ap (λ b. with_earlier (earlier_cell (with_minimum (boundary i - boundary b) (single b)) (longer i)) (followed_cells boundary single longer (size - (counter + 1)))) (sym before_is)
 
-  pub met-cell : boundary i - boundary before ≢ 0 → (d : Demand) → earlier_cell (with_minimum (boundary i - boundary before) (single before)) (longer i) ≡ Some d → (place : Position) → place ≡ place_of d →
-      (places ++ place ∷ []) ++ map place_of (followed_cells boundary single longer (size - (counter + 1)) d.start) ≡ whole
-  met-cell past d found place here =
+  pub met-cell : boundary i - boundary before ≢ 0 → (d : Demand) → earlier_cell (with_minimum (boundary i - boundary before) (single before)) (longer i) ≡ Some d → (position : Position) → position ≡ position_of d →
+      (positions ++ position ∷ []) ++ map position_of (followed_cells boundary single longer (size - (counter + 1)) d.start) ≡ whole
+  met-cell past d found position here =
       one_more d (followed_cells boundary single longer (size - (counter + 1)) d.start)
-      (past_now past ∙ ap (λ f. with_earlier f (followed_cells boundary single longer (size - (counter + 1)))) found) place here
+      (past_now past ∙ ap (λ f. with_earlier f (followed_cells boundary single longer (size - (counter + 1)))) found) position here
 
-  pub met-none : boundary i - boundary before ≢ 0 → earlier_cell (with_minimum (boundary i - boundary before) (single before)) (longer i) ≡ None → places ≡ whole
+  pub met-none : boundary i - boundary before ≢ 0 → earlier_cell (with_minimum (boundary i - boundary before) (single before)) (longer i) ≡ None → positions ≡ whole
   met-none past none =
-      sym (append-nil places)
-      ∙ ap (λ ds. places ++ map place_of ds) (sym (past_now past ∙ ap (λ f. with_earlier f (followed_cells boundary single longer (size - (counter + 1)))) none))
+      sym (append-nil positions)
+      ∙ ap (λ ds. positions ++ map position_of ds) (sym (past_now past ∙ ap (λ f. with_earlier f (followed_cells boundary single longer (size - (counter + 1)))) none))
       ∙ met_now
 
 pub none-from : (found : Option Demand) → ((d : Demand) → found ≡ Some d → ⊥) → found ≡ None

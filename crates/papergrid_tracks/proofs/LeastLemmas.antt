@@ -5,7 +5,7 @@ use Rattle.std.proofs.lemmas.Grind.{same_number_lists}
 use Rattle.std.proofs.lemmas.List.FromFn.{fill_by_all}
 use Rattle.papergrid_values.specs.declared.position.Position.{Position}
 use Rattle.papergrid_tracks.specs.declared.demand.Demand.{Demand}
-use Rattle.papergrid_tracks.specs.Ranges.{IsInTable, IsLaminar, first_out, place_of}
+use Rattle.papergrid_tracks.specs.Ranges.{IsInTable, IsLaminar, first_out, position_of}
 use Rattle.papergrid_values.specs.Lines.{all_lines}
 use Rattle.papergrid_tracks.specs.Problem.{Problem, problem_of_demands, total_of}
 use Rattle.papergrid_tracks.specs.Fits.{Fits, IsLeast, IsCertificate, IsTooLarge, top_minimum}
@@ -212,7 +212,7 @@ module _ (problem : Problem) (table : All (IsInTable problem.count) problem.dema
       bound = λ i l. bound-least_of i (let one_each : length (least_of problem) ≡ problem.count = IsLeast-least_of.fits.one_each in omega arith);
     }
 
-    pub AreCriticalPath-critical_path : total_of problem (least_of problem) < 18446744073709551616 → AreCriticalPath problem (map place_of (critical_path problem))
+    pub AreCriticalPath-critical_path : total_of problem (least_of problem) < 18446744073709551616 → AreCriticalPath problem (map position_of (critical_path problem))
     AreCriticalPath-critical_path small = record {
       table = table;
       none_out = inside;
@@ -240,5 +240,5 @@ module _ (problem : Problem) (table : All (IsInTable problem.count) problem.dema
 pub exact-least : (problem : Problem) (sizes : List ℕ) → AreLeastSizes problem sizes → sizes ≡ least_of problem
 exact-least problem sizes are = (furthest_right-is problem are.table sizes).0 are.exact
 
-pub exact-critical_path : (problem : Problem) (places : List Position) → AreCriticalPath problem places → places ≡ map place_of (critical_path problem)
-exact-critical_path problem places are = are.exact ∙ ap (map place_of) ((path_back-is problem are.table are.cells).0 are.path)
+pub exact-critical_path : (problem : Problem) (positions : List Position) → AreCriticalPath problem positions → positions ≡ map position_of (critical_path problem)
+exact-critical_path problem positions are = are.exact ∙ ap (map position_of) ((path_back-is problem are.table are.cells).0 are.path)

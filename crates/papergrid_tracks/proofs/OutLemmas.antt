@@ -9,7 +9,7 @@ use Rattle.papergrid_values.specs.Lines.{all_lines}
 use Rattle.papergrid_tracks.specs.declared.demand.Demand.{Demand}
 use Rattle.papergrid_tracks.specs.declared.demands.Demands.{Demands}
 use Rattle.papergrid_tracks.specs.Answers.{AreSizesTooLarge}
-use Rattle.papergrid_tracks.specs.Ranges.{IsInTable, end_of, first_out, place_of}
+use Rattle.papergrid_tracks.specs.Ranges.{IsInTable, end_of, first_out, position_of}
 use Rattle.papergrid_tracks.specs.Fits.{HasRoom}
 use Rattle.papergrid_tracks.specs.ForProofs.Demands.{AreGathered, is_large, rest_of, without_minimum}
 use Rattle.papergrid_tracks.specs.Sizes.{sizes_of}
@@ -19,7 +19,7 @@ use Rattle.papergrid_tracks.proofs.Theorems.{Fits-sizes_of}
 
 first_out-ranges : (n : ℕ) (ds : List Demand) → first_out n (map without_minimum ds) ≡ first_out n ds
 first_out-ranges n [] = refl
-first_out-ranges n (d ∷ ds) = ap (λ rest. if nat_lt n (end_of d) then Some (place_of d) else rest) (first_out-ranges n ds)
+first_out-ranges n (d ∷ ds) = ap (λ rest. if nat_lt n (end_of d) then Some (position_of d) else rest) (first_out-ranges n ds)
 
 -- the minimum sizes do not matter
 same_out : (n : ℕ) (xs ys : List Demand) → map without_minimum xs ≡ map without_minimum ys → first_out n xs ≡ first_out n ys
@@ -33,7 +33,7 @@ if_none false x r e = (refl, e)
 pub none_out : (n : ℕ) (ds : List Demand) → first_out n ds ≡ None → All (λ d. 1 ≤ d.span) ds → All (IsInTable n) ds
 none_out n [] e spans = All-nil (IsInTable n)
 none_out n (d ∷ ds) e spans =
-    let r = if_none (nat_lt n (end_of d)) (place_of d) (first_out n ds) e in
+    let r = if_none (nat_lt n (end_of d)) (position_of d) (first_out n ds) e in
     let within : d.start + d.span ≤ n = ltb-false n (end_of d) r.0 in
     All-cons (IsInTable n) d ds record { covers_one = All-head (λ d. 1 ≤ d.span) d ds spans; ends_within = within }
     (none_out n ds r.1 (All-tail (λ d. 1 ≤ d.span) d ds spans))

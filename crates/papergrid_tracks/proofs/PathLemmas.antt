@@ -9,7 +9,7 @@ use Rattle.papergrid_tracks.specs.declared.demands.Demands.{Demands}
 use Rattle.papergrid_tracks.specs.ForProofs.Demands.{AreGathered, StandInOrder, first_greatest, is_single, no_demand, rest_of}
 use Rattle.papergrid_tracks.specs.ForProofs.Settled.{line_at}
 use Rattle.papergrid_tracks.specs.Problem.{Problem}
-use Rattle.papergrid_tracks.specs.Ranges.{IsInTable, end_of, inner_lines, place_of}
+use Rattle.papergrid_tracks.specs.Ranges.{IsInTable, end_of, inner_lines, position_of}
 use Rattle.papergrid_tracks.specs.Sizes.{base_size}
 use Rattle.papergrid_tracks.proofs.Counting.{find-all}
 use Rattle.papergrid_tracks.proofs.DrawnLemmas.{inner-drawn}
@@ -41,13 +41,13 @@ starts-first_greatest i ds = elim (cases_eq (base_size ds i) 0) [
         let here : d.start ≡ i = (holds_alone d i front.0).1 in
         omega arith
 
-reverse-places : (ds : List Demand) → reverse (map place_of ds) ≡ map place_of (reverse ds)
-reverse-places [] = refl
-reverse-places (d ∷ ds) =
-    reverse-append (place_of d ∷ []) (map place_of ds)
-    ∙ ap (λ ps. ps ++ place_of d ∷ []) (reverse-places ds)
-    ∙ sym (map-append place_of (reverse ds) (d ∷ []))
-    ∙ ap (map place_of) (sym (reverse-append (d ∷ []) ds))
+reverse-positions : (ds : List Demand) → reverse (map position_of ds) ≡ map position_of (reverse ds)
+reverse-positions [] = refl
+reverse-positions (d ∷ ds) =
+    reverse-append (position_of d ∷ []) (map position_of ds)
+    ∙ ap (λ ps. ps ++ position_of d ∷ []) (reverse-positions ds)
+    ∙ sym (map-append position_of (reverse ds) (d ∷ []))
+    ∙ ap (map position_of) (sym (reverse-append (d ∷ []) ds))
 
 none_some : (d : Demand) → None ≡ Some d → ⊥
 none_some d e = cc
@@ -115,12 +115,12 @@ module _ (problem : Problem) (kept : Demands) (is : AreGathered problem.count ke
             let many : length boundaries ≡ problem.count + 1 = are.many in
             omega arith
 
-    pub critical_path-met : StandInOrder problem.demands → reverse (map place_of (followed_cells boundary (kept_single kept.single_span.items) (kept_longer tight_cells) (length boundaries - 1) (length boundaries - 1))) ≡ map place_of (critical_path problem)
+    pub critical_path-met : StandInOrder problem.demands → reverse (map position_of (followed_cells boundary (kept_single kept.single_span.items) (kept_longer tight_cells) (length boundaries - 1) (length boundaries - 1))) ≡ map position_of (critical_path problem)
     critical_path-met in_order =
         let many : length boundaries ≡ problem.count + 1 = are.many in
         let last : length boundaries - 1 ≡ problem.count = omega arith in
-        ap (λ k. reverse (map place_of (followed_cells boundary (kept_single kept.single_span.items) (kept_longer tight_cells) k k))) last
-        ∙ ap (λ ds. reverse (map place_of ds))
+        ap (λ k. reverse (map position_of (followed_cells boundary (kept_single kept.single_span.items) (kept_longer tight_cells) k k))) last
+        ∙ ap (λ ds. reverse (map position_of ds))
         (followed-is problem.line drawn problem.count is.limit problem.demands are.drawn are.table is.below is.from_limit in_order boundary are.boundary_at (kept_single kept.single_span.items) (is.held.single_span small)
         (kept_longer tight_cells) (λ i l. first i (omega arith) ∙ ap (find (is_tight_by (net_minimum drawn) boundary i)) exact) problem.count problem.count (omega arith))
-        ∙ reverse-places (path (net_minimum problem.line) problem.demands problem.count problem.count)
+        ∙ reverse-positions (path (net_minimum problem.line) problem.demands problem.count problem.count)

@@ -46,6 +46,6 @@ pub table-wider : (n m : ℕ) (cells : List Demand) → n ≤ m → All (IsInTab
 table-wider n m cells le table k d l = let cell : IsInTable n (get_or cells k d) = table k d l in record { covers_one = cell.covers_one; ends_within = omega (arith, cell.ends_within) }
 
 pub Refuses-weaker : (A B : Type 0) → (A → B) → (e : LayoutError) → Refuses A e → Refuses B e
-Refuses-weaker A B f (OutOfTable place) refused = refused
+Refuses-weaker A B f (OutOfTable position) refused = refused
 Refuses-weaker A B f TooLarge refused = f refused
 Refuses-weaker A B f (Memory e) refused = tt

@@ -3,7 +3,7 @@ use Rattle.std.specs.Prelude.{◌≡◌, ℕ, ◌^◌, ◌<◌, ◌≤◌, List,
 use Rattle.papergrid_values.specs.declared.position.Position.{Position}
 use Rattle.papergrid_tracks.specs.declared.demand.Demand.{Demand}
 use Rattle.papergrid_tracks.specs.Problem.{Problem, total_of}
-use Rattle.papergrid_tracks.specs.Ranges.{IsLaminar, SomeCross, first_out, place_of}
+use Rattle.papergrid_tracks.specs.Ranges.{IsLaminar, SomeCross, first_out, position_of}
 use Rattle.papergrid_tracks.specs.Fits.{Fits, IsLeast, IsTooLarge, IsCertificate, top_minimum}
 use Rattle.papergrid_tracks.specs.Sizes.{sizes_of}
 use Rattle.papergrid_tracks.specs.Certificates.{certificate_cells_of}
@@ -25,11 +25,11 @@ module _ (problem : Problem) where
     pub others_too_large : IsLaminar problem.demands → (other : List ℕ) → Fits problem other → IsTooLarge problem other
 
   -- the positions of the cells of the certificate
-  pub record AreCertifying (places : List Position) : Type 0 where
+  pub record AreCertifying (positions : List Position) : Type 0 where
     pub none_out : first_out problem.count problem.demands ≡ None
     pub total : total_of problem (sizes_of problem) < 2 ^ 64
     pub laminar : IsLaminar problem.demands
-    pub exact : places ≡ map place_of (certificate_cells_of problem)
+    pub exact : positions ≡ map position_of (certificate_cells_of problem)
     pub certificate : IsCertificate problem (sizes_of problem) (certificate_cells_of problem)
 
   -- there are sizes, and two longer ranges are neither nested nor disjoint
@@ -39,9 +39,9 @@ module _ (problem : Problem) where
     pub not_laminar : SomeCross problem.demands
 
 -- what a checker accepts: no cell overflows the table, the sizes fit, and the positions are those of cells that certify them
-pub record IsAccepted (problem : Problem) (sizes : List ℕ) (places : List Position) : Type 0 where
+pub record IsAccepted (problem : Problem) (sizes : List ℕ) (positions : List Position) : Type 0 where
   pub none_out : first_out problem.count problem.demands ≡ None
   pub fits : Fits problem sizes
   pub cells : List Demand
-  pub at_places : map place_of cells ≡ places
+  pub at_positions : map position_of cells ≡ positions
   pub certificate : IsCertificate problem sizes cells

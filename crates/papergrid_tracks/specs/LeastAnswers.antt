@@ -3,7 +3,7 @@ use Rattle.std.specs.Prelude.{◌≡◌, ℕ, ◌^◌, ◌<◌, ◌≤◌, List,
 use Rattle.papergrid_values.specs.declared.position.Position.{Position}
 use Rattle.papergrid_tracks.specs.declared.demand.Demand.{Demand}
 use Rattle.papergrid_tracks.specs.Problem.{Problem, total_of}
-use Rattle.papergrid_tracks.specs.Ranges.{IsInTable, first_out, place_of}
+use Rattle.papergrid_tracks.specs.Ranges.{IsInTable, first_out, position_of}
 use Rattle.papergrid_tracks.specs.Fits.{Fits, IsCertificate, IsLeast, IsTooLarge, top_minimum}
 use Rattle.papergrid_tracks.specs.Least.{AreFurthestRight, least_of}
 use Rattle.papergrid_tracks.specs.CriticalPath.{IsPathBack}
@@ -19,11 +19,11 @@ module _ (problem : Problem) where
     pub bound : EachIndex sizes (λ i. slice_index sizes i ≤ top_minimum problem.demands i)
 
   -- the positions of the cells of the critical path, which certify any least sizes; and these fit
-  pub record AreCriticalPath (places : List Position) : Type 0 where
+  pub record AreCriticalPath (positions : List Position) : Type 0 where
     pub table : All (IsInTable problem.count) problem.demands
     pub none_out : first_out problem.count problem.demands ≡ None
     pub cells : List Demand
-    pub exact : places ≡ map place_of cells
+    pub exact : positions ≡ map position_of cells
     pub path : IsPathBack problem problem.count (reverse cells)
     pub total : (sizes : List ℕ) → IsLeast problem sizes → total_of problem sizes < 2 ^ 64
     pub certificate : (sizes : List ℕ) → IsLeast problem sizes → IsCertificate problem sizes cells

@@ -10,8 +10,8 @@ use Rattle.papergrid_values.specs.Positions.{along}
 
 -- what the cell at a position asks for along a direction, by its span and its minimum size
 abbrev pub demand_of : Direction → Position → ℕ → ℕ → Demand
-demand_of direction place span minimum =
-    record { row = place.row; col = place.col; start = along direction place; span = span; minimum = minimum }
+demand_of direction position span minimum =
+    record { row = position.row; col = position.col; start = along direction position; span = span; minimum = minimum }
 
 -- where the range ends: the first number past it
 abbrev pub end_of : Demand → ℕ
@@ -27,13 +27,13 @@ pub record IsInTable (n : ℕ) (d : Demand) : Type 0 where
   pub ends_within : end_of d ≤ n
 
 -- where the cell stands
-abbrev pub place_of : Demand → Position
-place_of d = record { row = d.row; col = d.col }
+abbrev pub position_of : Demand → Position
+position_of d = record { row = d.row; col = d.col }
 
 -- the first cell that overflows the table: its range ends past n
 abbrev pub first_out : ℕ → List Demand → Option Position
 first_out n [] = None
-first_out n (d ∷ ds) = if nat_lt n (end_of d) then Some (place_of d) else first_out n ds
+first_out n (d ∷ ds) = if nat_lt n (end_of d) then Some (position_of d) else first_out n ds
 
 -- ranges with no track in common
 abbrev pub AreDisjoint : Demand → Demand → Type 0

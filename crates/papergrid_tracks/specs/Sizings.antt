@@ -25,7 +25,7 @@ AreTooLargeBy Least = AreLeastTooLarge
 -- why there are no sizes: out of the table by the first cell that overflows it, else too large. An allocation may fail in
 -- place of any answer
 abbrev pub IsRefused : Sizing → Problem → LayoutError → Type 0
-IsRefused sizing problem (OutOfTable place) = first_out problem.count problem.demands ≡ Some place
+IsRefused sizing problem (OutOfTable position) = first_out problem.count problem.demands ≡ Some position
 IsRefused sizing problem TooLarge = AreTooLargeBy sizing problem
 IsRefused sizing problem (Memory e) = ⊤
 
@@ -45,20 +45,20 @@ pub record IsTotal (sizing : Sizing) (problem : Problem) (total : ℕ) : Type 0 
   pub adds_up : total ≡ total_of problem sizes
 
 -- the positions that are listed, if there are any
-abbrev pub places_of : Option (Vec Position Global) → Option (List Position)
-places_of certificate = option_map (λ places. places.items) certificate
+abbrev pub positions_of : Option (Vec Position Global) → Option (List Position)
+positions_of certificate = option_map (λ positions. positions.items) certificate
 
 -- the positions of the cells that certify that the sizes are least. By shares there are none where two longer ranges are
 -- neither nested nor disjoint, and only there; least sizes always have them
 abbrev pub IsCertificateBy : Sizing → Problem → Option (List Position) → Type 0
 IsCertificateBy ByShares problem None = NoneCertify problem
-IsCertificateBy ByShares problem (Some places) = AreCertifying problem places
+IsCertificateBy ByShares problem (Some positions) = AreCertifying problem positions
 IsCertificateBy Least problem None = ⊥
-IsCertificateBy Least problem (Some places) = AreCriticalPath problem places
+IsCertificateBy Least problem (Some positions) = AreCriticalPath problem positions
 
 -- the same of a list as it is held
 abbrev pub Certifies : Sizing → Problem → Option (Vec Position Global) → Type 0
-Certifies sizing problem certificate = IsCertificateBy sizing problem (places_of certificate)
+Certifies sizing problem certificate = IsCertificateBy sizing problem (positions_of certificate)
 
 -- what a solver finds of a problem: the sizes that are chosen so, and their total with all lines. Where it is asked for a
 -- certificate it finds one of which this holds, else none

@@ -9,7 +9,7 @@ ghost use Rattle.papergrid_tracks.specs.Ranges.{IsInTable};
 ghost use Rattle.papergrid_tracks.specs.ForProofs.Demands.{AreGathered};
 ghost use Rattle.papergrid_tracks.specs.ForProofs.Settled.{AreGrown};
 
-use crate::certificate_cells::certifying_places;
+use crate::certificate_cells::certifying_positions;
 use crate::demand::Demand;
 use crate::demands::Demands;
 use crate::last_cells::are_laminar;
@@ -53,6 +53,6 @@ pub fn certificate_of(
     if !is_laminar_in_order(alloc, sizes.len(), cells)? {
         return Ok(None);
     }
-    let places = certifying_places(alloc, &kept.single_span, growing_cells, sizes)?;
-    Ok(Some(places))
+    let positions = certifying_positions(alloc, &kept.single_span, growing_cells, sizes)?;
+    Ok(Some(positions))
 }

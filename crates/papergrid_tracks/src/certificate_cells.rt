@@ -5,7 +5,7 @@ ghost use Rattle.std.specs.List.{range_with_len};
 ghost use Rattle.papergrid_tracks.specs.declared.demand.Demand.{Demand};
 ghost use Rattle.papergrid_tracks.specs.Certificates.{certificate_cells};
 ghost use Rattle.papergrid_tracks.specs.ForProofs.LastCells.{AreExact, IsLaminarInOrder, certificate_slot, last_holding, slot_of};
-ghost use Rattle.papergrid_tracks.specs.Ranges.{IsInTable, place_of};
+ghost use Rattle.papergrid_tracks.specs.Ranges.{IsInTable, position_of};
 
 use crate::demand::Demand;
 use crate::demands::single_at;
@@ -76,15 +76,15 @@ fn last_of(alloc: Global, count: usize, cells: &[Demand]) -> Result<Vec<Option<D
 }
 
 /// Where the cells stand.
-fn places(alloc: Global, cells: &[Demand]) -> Result<Vec<Position>, AllocError>
-    ensures { IfOk result (λ places. places.items ≡ map place_of cells.now) }
+fn positions(alloc: Global, cells: &[Demand]) -> Result<Vec<Position>, AllocError>
+    ensures { IfOk result (λ positions. positions.items ≡ map position_of cells.now) }
 {
-    cells.iter().map(|cell| cell.place()).collect(alloc)
+    cells.iter().map(|cell| cell.position()).collect(alloc)
 }
 
 /// The positions of the cells of the certificate of those that grew, by the sizes after they did
 /// and by the cells that were kept for each track.
-pub fn certifying_places(
+pub fn certifying_positions(
     alloc: Global,
     single_span: &[Demand],
     growing_cells: &[Demand],
@@ -95,9 +95,9 @@ pub fn certifying_places(
     ensures { (demands : List Demand) →
         AreExact demands growing_cells.now sizes.now single_span.now →
         let cells = certificate_cells (length sizes.now) demands growing_cells.now sizes.now in
-        IfOk result (λ places. places.items ≡ map place_of cells) }
+        IfOk result (λ positions. positions.items ≡ map position_of cells) }
 {
     let last = last_of(alloc, sizes.len(), growing_cells)?;
     let cells = certifying_cells(alloc, &last, single_span, sizes)?;
-    places(alloc, &cells)
+    positions(alloc, &cells)
 }

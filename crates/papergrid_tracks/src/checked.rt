@@ -28,10 +28,10 @@ pub struct Checked {
 impl Checked {
     /// No cell met.
     pub fn new() -> Self
-        ensures bounded { (places : List Position) → AreBounded places result }
-        ensures checks { (line : ℕ → Bool) (sizes : List ℕ) (places : List Position)
+        ensures bounded { (positions : List Position) → AreBounded positions result }
+        ensures checks { (line : ℕ → Bool) (sizes : List ℕ) (positions : List Position)
             (direction : Direction) (span : Position → ℕ) →
-            Checks line sizes places direction span result [] }
+            Checks line sizes positions direction span result [] }
     {
         Checked {
             holds: true,
@@ -162,29 +162,30 @@ pub fn visit<A: Axis>(
     checked: Checked,
     candidate: &Candidate<'_>,
     axis: &A,
-    place: Position,
+    position: Position,
     minimum: u128,
 ) -> Checked
-    requires bounded { AreBounded candidate.now.places.now checked }
+    requires bounded { AreBounded candidate.now.positions.now checked }
     requires ordered { IsCandidate (A.span_of axis.now) candidate.now }
     requires minimum { minimum ≤ 2 ^ 66 }
-    ensures bounded { AreBounded candidate.now.places.now result }
+    ensures bounded { AreBounded candidate.now.positions.now result }
     ensures checks { let checks = ChecksFor (A.line axis.now) (A.span_of axis.now) candidate.now in
-        let demand = demand_of candidate.now.direction place (A.span_of axis.now place) minimum in
+        let span = A.span_of axis.now position in
+        let demand = demand_of candidate.now.direction position span minimum in
         (demands : List Demand) → checks checked demands → checks result (demands ++ demand ∷ []) }
 {
-    let start = candidate.direction.number_of(place);
-    let times = count_listed(candidate, place);
+    let start = candidate.direction.number_of(position);
+    let times = count_listed(candidate, position);
     if checked.holds && times == 0 && has_room_alone(candidate, start, minimum) {
         return checked;
     }
-    let span = axis.span(place);
+    let span = axis.span(position);
     if !checked.holds {
         return failed(checked);
     }
     match room(axis, candidate.sizes, start, span, minimum) {
         Some(inner) => {
-            if times <= candidate.places.len() - checked.found {
+            if times <= candidate.positions.len() - checked.found {
                 with_cell(checked, times, minimum, inner)
             } else {
                 failed(checked)
@@ -206,14 +207,14 @@ pub fn is_unchanged(before: Checked, after: Checked) -> bool
 
 /// Whether all cells have room, each position is a cell's, and the minimum sizes of the listed
 /// cells less their inner lines add up to the sizes.
-fn sums_agree(checked: Checked, sizes: &[usize], places: &[Position]) -> bool
-    requires { AreBounded places.now checked }
-    ensures { IsTrue result ↔ SumsAgree checked sizes.now places.now }
+fn sums_agree(checked: Checked, sizes: &[usize], positions: &[Position]) -> bool
+    requires { AreBounded positions.now checked }
+    ensures { IsTrue result ↔ SumsAgree checked sizes.now positions.now }
 {
     if !checked.holds {
         return false;
     }
-    if checked.found != places.len() {
+    if checked.found != positions.len() {
         return false;
     }
     checked.minimums == wide_sum(sizes) + checked.inner
@@ -223,12 +224,12 @@ fn sums_agree(checked: Checked, sizes: &[usize], places: &[Position]) -> bool
 /// table, and the positions are those of visible cells of disjoint ranges, whose minimum sizes less
 /// their inner lines add up to the sizes. Then no other choice of sizes has a smaller total.
 pub fn accepts<A: Axis>(checked: Checked, candidate: &Candidate<'_>, axis: &A, count: usize) -> bool
-    requires bounded { AreBounded candidate.now.places.now checked }
+    requires bounded { AreBounded candidate.now.positions.now checked }
     requires ordered { IsCandidate (A.span_of axis.now) candidate.now }
     ensures exact { let checks = ChecksFor (A.line axis.now) (A.span_of axis.now) candidate.now in
         (demands : List Demand) → AreDistinct demands → checks checked demands →
         let problem = problem_of_demands (A.line axis.now) count demands in
-        IsTrue result ↔ IsAccepted problem candidate.now.sizes.now candidate.now.places.now }
+        IsTrue result ↔ IsAccepted problem candidate.now.sizes.now candidate.now.positions.now }
     ensures least { let checks = ChecksFor (A.line axis.now) (A.span_of axis.now) candidate.now in
         (demands : List Demand) → AreDistinct demands → checks checked demands → IsTrue result →
         IsLeast (problem_of_demands (A.line axis.now) count demands) candidate.now.sizes.now }
@@ -236,7 +237,7 @@ pub fn accepts<A: Axis>(checked: Checked, candidate: &Candidate<'_>, axis: &A, c
     if candidate.sizes.len() != count {
         return false;
     }
-    if !sums_agree(checked, candidate.sizes, candidate.places) {
+    if !sums_agree(checked, candidate.sizes, candidate.positions) {
         return false;
     }
     are_disjoint(candidate, axis)

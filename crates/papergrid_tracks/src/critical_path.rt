@@ -2,7 +2,7 @@
 
 ghost use Rattle.std.specs.Prelude.{All, EachIndex, IfOk, None, Some, find, length, map, slice_index, slice_index_or, ℕ, ◌+◌, ◌-◌, ◌<◌, ◌==◌, ◌≡◌, ◌≤◌};
 ghost use Rattle.papergrid_tracks.specs.ForProofs.Settled.{line_at};
-ghost use Rattle.papergrid_tracks.specs.Ranges.{IsInTable, end_of, place_of};
+ghost use Rattle.papergrid_tracks.specs.Ranges.{IsInTable, end_of, position_of};
 ghost use Rattle.papergrid_tracks.specs.declared.demand.Demand.{Demand};
 ghost use Rattle.papergrid_tracks.specs.TrackBoundaries.{net_minimum};
 ghost use Rattle.papergrid_tracks.specs.ForProofs.Followed.{earlier_cell, followed_cells, kept_longer, kept_single, with_minimum, is_tight_by};
@@ -75,7 +75,7 @@ fn earlier_cell(cell: Option<Demand>, other: Option<Demand>) -> Option<Demand>
 {
     match (cell, other) {
         (Some(cell), Some(other)) => {
-            if other.place() < cell.place() {
+            if other.position() < cell.position() {
                 Some(other)
             } else {
                 Some(cell)
@@ -105,9 +105,9 @@ pub fn follow(
         let single = kept_single single_span.now in
         let longer = kept_longer tight_cells.now in
         let cells = followed_cells (slice_index lowest_position.now) single longer count count in
-        IfOk result (λ places. places.items ≡ map place_of cells) }
+        IfOk result (λ positions. positions.items ≡ map position_of cells) }
 {
-    let mut places = Vec::new(alloc);
+    let mut positions = Vec::new(alloc);
     let mut number = lowest_position.len() - 1;
     for _ in 1..lowest_position.len() {
         let before = number.saturating_sub(1);
@@ -117,11 +117,11 @@ pub fn follow(
         } else {
             let single = with_minimum(single_span, before, step);
             let Some(cell) = earlier_cell(single, tight_cells[number]) else {
-                return Ok(places);
+                return Ok(positions);
             };
-            places.push(cell.place())?;
+            positions.push(cell.position())?;
             number = cell.start;
         }
     }
-    Ok(places)
+    Ok(positions)
 }

@@ -17,11 +17,11 @@ pub struct Demand {
 }
 
 impl Demand {
-    ghost use Rattle.papergrid_tracks.specs.Ranges.{place_of};
+    ghost use Rattle.papergrid_tracks.specs.Ranges.{position_of};
 
     /// Where the cell stands.
-    pub fn place(self) -> Position
-        ensures { result ≡ place_of self }
+    pub fn position(self) -> Position
+        ensures { result ≡ position_of self }
     {
         Position::new(self.row, self.col)
     }

@@ -26,13 +26,14 @@ fn are_disjoint<A: Axis>(direction: Direction, axis: &A, a: Position, b: Positio
 fn is_disjoint<A: Axis>(
     direction: Direction,
     axis: &A,
-    place: Position,
+    position: Position,
     others: &[Position],
 ) -> bool
-    ensures { IsTrue result ↔ All (AreDisjointAt direction (A.span_of axis.now) place) others.now }
+    ensures { IsTrue result
+        ↔ All (AreDisjointAt direction (A.span_of axis.now) position) others.now }
 {
     for other in others {
-        if !are_disjoint(direction, axis, place, *other) {
+        if !are_disjoint(direction, axis, position, *other) {
             return false;
         }
     }
@@ -40,11 +41,12 @@ fn is_disjoint<A: Axis>(
 }
 
 /// Whether no two of the ranges at the positions have a track in common.
-pub fn are_all_disjoint<A: Axis>(direction: Direction, axis: &A, places: &[Position]) -> bool
-    ensures { IsTrue result ↔ AllPairs (AreDisjointAt direction (A.span_of axis.now)) places.now }
+pub fn are_all_disjoint<A: Axis>(direction: Direction, axis: &A, positions: &[Position]) -> bool
+    ensures { IsTrue result
+        ↔ AllPairs (AreDisjointAt direction (A.span_of axis.now)) positions.now }
 {
-    for (i, place) in places.iter().enumerate() {
-        if !is_disjoint(direction, axis, *place, &places[..i]) {
+    for (i, position) in positions.iter().enumerate() {
+        if !is_disjoint(direction, axis, *position, &positions[..i]) {
             return false;
         }
     }

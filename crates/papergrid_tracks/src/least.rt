@@ -3,7 +3,7 @@
 ghost use Rattle.std.specs.Prelude.{IfOk, None, false, map, true, ◌≡◌};
 ghost use Rattle.papergrid_tracks.specs.ForProofs.Demands.{AreGathered, StandInOrder};
 ghost use Rattle.papergrid_tracks.specs.Problem.{Problem};
-ghost use Rattle.papergrid_tracks.specs.Ranges.{place_of};
+ghost use Rattle.papergrid_tracks.specs.Ranges.{position_of};
 ghost use Rattle.papergrid_tracks.specs.ForProofs.LeastSettled.{AreLowestPositions, IsCriticalPathInOrder};
 ghost use Rattle.papergrid_tracks.specs.CriticalPath.{critical_path};
 
@@ -19,7 +19,7 @@ use papergrid_values::Position;
 use std::alloc::{AllocError, Global};
 
 /// The positions of the cells of the critical path, by the starts of their ranges.
-fn critical_path_places(
+fn critical_path_positions(
     alloc: Global,
     kept: &Demands,
     lines: &Lines,
@@ -31,13 +31,13 @@ fn critical_path_places(
         × AreLowestPositions problem lines.now lowest_position.now }
     ensures { (problem : Problem) → AreGathered problem.count kept.now problem.demands →
         AreLowestPositions problem lines.now lowest_position.now → StandInOrder problem.demands →
-        IfOk result (λ places. places.items ≡ map place_of (critical_path problem)) }
+        IfOk result (λ positions. positions.items ≡ map position_of (critical_path problem)) }
 {
     let mut tight_cells = vec![in alloc; None; lowest_position.len()]?;
     mark_tight_cells(&mut tight_cells, lowest_position, lines, &kept.rest);
-    let mut places = follow(alloc, lowest_position, &kept.single_span, &tight_cells)?;
-    places.reverse();
-    Ok(places)
+    let mut positions = follow(alloc, lowest_position, &kept.single_span, &tight_cells)?;
+    positions.reverse();
+    Ok(positions)
 }
 
 /// The certificate of least sizes, where it is asked for.
@@ -60,8 +60,8 @@ fn certificate_of(
     if !certify {
         return Ok(None);
     }
-    let places = critical_path_places(alloc, kept, lines, lowest_position)?;
-    Ok(Some(places))
+    let positions = critical_path_positions(alloc, kept, lines, lowest_position)?;
+    Ok(Some(positions))
 }
 
 /// With the least total: there are no sizes only where none with room for each cell come with all lines

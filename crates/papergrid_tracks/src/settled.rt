@@ -91,7 +91,7 @@ pub fn find_out(count: usize, demands: &[Demand]) -> Option<Position>
 {
     for demand in demands {
         if overflows(count, *demand) {
-            return Some(demand.place());
+            return Some(demand.position());
         }
     }
     None

@@ -8,18 +8,18 @@ use Rattle.std.proofs.lemmas.Bool.{false≢true}
 use Rattle.std.proofs.lemmas.Map.Entries.{lookup_from_place, place_from_lookup}
 use Rattle.std.proofs.lemmas.Map.Keys.{any_passes_from_place}
 
-pub any_place : {A : Type 0} (test : A → Bool) (es : List A) → list_any test es ≡ true → (i : ℕ) × (e : A) × (slice_get es i ≡ Some e) × (test e ≡ true)
-any_place test [] h = absurd (false≢true h)
-any_place {A} test (e ∷ es) h =
+pub any_index : {A : Type 0} (test : A → Bool) (es : List A) → list_any test es ≡ true → (i : ℕ) × (e : A) × (slice_get es i ≡ Some e) × (test e ≡ true)
+any_index test [] h = absurd (false≢true h)
+any_index {A} test (e ∷ es) h =
     elim (test e) as (λ b. test e ≡ b → (b || list_any test es) ≡ true → (i : ℕ) × (x : A) × (slice_get (e ∷ es) i ≡ Some x) × (test x ≡ true)) [
       | true ↦ λ t h. (0, e, refl, t)
-      | false ↦ λ t h. let r = any_place test es h in (suc r.0, r.1, r.2, r.3)
+      | false ↦ λ t h. let r = any_index test es h in (suc r.0, r.1, r.2, r.3)
     ] refl h
 
 module _ {K X : Type 0} {E : K → K → Bool} (laws : IsEquivalence E) (test : K × X → Bool) (es : List (K × X)) where
   -- some key's value passes
   pub any_found : IsDistinct E (keys_of es) → list_any test es ≡ true → (k : K) × (v : X) × (lookup (E k) es ≡ Some v) × (test (k, v) ≡ true)
-  any_found distinct h = let r = any_place test es h in (r.1.0, r.1.1, lookup_from_place laws es r.0 r.1.0 r.1.1 distinct r.2, r.3)
+  any_found distinct h = let r = any_index test es h in (r.1.0, r.1.1, lookup_from_place laws es r.0 r.1.0 r.1.1 distinct r.2, r.3)
 
   pub any_from_found : ((x y : K) → E x y ≡ true → x ≡ y) → (k : K) (v : X) → lookup (E k) es ≡ Some v → test (k, v) ≡ true → list_any test es ≡ true
   any_from_found exact k v h passes =

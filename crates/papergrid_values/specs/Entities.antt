@@ -33,11 +33,11 @@ position_at_step (Column c) row col = position_of (row, c)
 position_at_step (Row r) row col = position_of (r, col)
 position_at_step (Cell r c) row col = position_of (r, c)
 
--- the places of one row of steps, from a column on
+-- the positions of one row of steps, from a column on
 abbrev pub row_from : Entity → ℕ → ℕ → ℕ → List Position
 row_from entity cols row col = map (λ c. position_at_step entity row c) (range_with_len col (cols - col))
 
--- the places of all rows of steps, from a row on
+-- the positions of all rows of steps, from a row on
 abbrev pub rows_from : Entity → ℕ → ℕ → ℕ → List Position
 rows_from entity cols rows row =
     flat_map (λ r. row_from entity cols r 0) (range_with_len row (rows - row))

@@ -4,7 +4,7 @@ use Rattle.std.specs.List.{flat_map}
 use Rattle.std.specs.Hash as fed
 use Rattle.std.specs.Hash.{HashWrites}
 
--- the place of a kind in the list of its type, and then the numbers
+-- the index of a kind in the list of its type, and then the numbers
 abbrev pub key_fed : List ℕ → HashWrites
 key_fed [] = []
 key_fed (kind ∷ numbers) = fed.isize (pos kind) ++ flat_map fed.usize numbers

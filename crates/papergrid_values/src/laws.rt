@@ -45,7 +45,7 @@ use crate::{
 use std::cmp::Ordering;
 use std::hash::Hash;
 
-/// The positions of a whole table: each place with a row and a column below the counts stands
+/// The positions of a whole table: each position with a row and a column below the counts stands
 /// there exactly once, nothing else does, and they rise by row and then by column.
 pub fn global_positions()
     ensures once { (rows cols : ℕ) (p : Position) → p.row < rows → p.col < cols →
@@ -176,7 +176,7 @@ pub fn equal_directions()
 
 /// The other values hash likewise: positions the row and then the column, entities and offsets the
 /// kind and then the numbers, indents the character and then the size, flags of formatting in the
-/// order of the fields, alignments their place in the list, colours the prefix and then the suffix.
+/// order of the fields, alignments their index in the list, colours the prefix and then the suffix.
 pub fn hashed_by_fields()
     ensures positions { (p : Position) →
         ⟦<Position as Hash>⟧.hash_input p ≡ flat_map fed.usize (p.row ∷ p.col ∷ []) }

@@ -1,10 +1,10 @@
-//! A place in a text, counted from one of its ends. Source: `config/offset.rs`.
+//! An offset in a text, counted from one of its ends. Source: `config/offset.rs`.
 
 ghost use Rattle.std.specs.Prelude.{◌≡◌};
 ghost use Rattle.papergrid_values.specs.Offsets.{offset_of};
 ghost use Rattle.papergrid_values.specs.declared.offset.Offset.TheVariants.{Start};
 
-/// A place counted from the start of a text, or from its end.
+/// An offset from the start of a text, or from its end.
 ///
 /// A signed number is one from the start where it is 0 or more, and else one from the end, of its
 /// magnitude.

@@ -1,4 +1,4 @@
-//! A place in a table. Source: `config/position.rs`.
+//! A row and a column of a table. Source: `config/position.rs`.
 
 ghost use Rattle.std.specs.Prelude.{◌≡◌, ◌<◌, ◌≤◌, ◌↔◌, ◌⊎◌, IsTrue};
 ghost use Rattle.papergrid_values.specs.Positions.{position_of, sum_of, difference_of, CanAdd, CanSubtract};
@@ -18,7 +18,7 @@ pub struct Position {
 }
 
 impl Position {
-    /// The place at this row and column.
+    /// The position at this row and column.
     pub fn new(row: usize, col: usize) -> Position
         ensures { result ≡ record { row = row; col = col } }
     {

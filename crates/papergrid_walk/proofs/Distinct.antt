@@ -1,4 +1,4 @@
--- Cells of told rows stand by row and then by column, so no two of them at one place.
+-- Cells of rows that records yield stand by row and then by column, so no two of them at one position.
 use Rattle.std.proofs.Common.{◌≡◌, ℕ, ◌+◌, ◌<◌, ◌≤◌, ◌≢◌, inl, inr, List, [], ◌∷◌, ◌++◌, get_or, length, map, refl, sym, ap, arith, suc}
 use Rattle.std.specs.Prelude.{All, AllPairs, true}
 use Rattle.std.proofs.lemmas.List.Elements.{All-append, All-cons, All-filter, All-map, All-nil, All-weaker}
@@ -9,7 +9,7 @@ use Rattle.papergrid_values.specs.declared.direction.Direction.TheVariants.{Colu
 use Rattle.papergrid_tracks.specs.declared.demand.Demand.{Demand}
 use Rattle.papergrid_tracks.specs.declared.demands.Demands.{Demands}
 use Rattle.papergrid_tracks.specs.ForProofs.Checks.{AreDistinct}
-use Rattle.papergrid_tracks.specs.Ranges.{place_of}
+use Rattle.papergrid_tracks.specs.Ranges.{position_of}
 use Rattle.papergrid_tracks.specs.ForProofs.Demands.{HoldsDemands, AreGathered, StandInOrder, is_single}
 use Rattle.papergrid_tracks.proofs.DemandLemmas.{below-own_limit}
 use Rattle.papergrid_values.specs.Positions.{IsBefore}
@@ -21,7 +21,7 @@ pub count-le : (direction : Direction) (columns n : ℕ) → n < 184467440737095
 count-le Columns columns n l = omega arith
 count-le Rows columns n l = omega arith
 
-differ : (a b : Demand) → IsBefore (place_of a) (place_of b) → place_of a ≢ place_of b
+differ : (a b : Demand) → IsBefore (position_of a) (position_of b) → position_of a ≢ position_of b
 differ a b before e =
     let row : a.row ≡ b.row = ap (λ (p : Position). p.row) e in
     let col : a.col ≡ b.col = ap (λ (p : Position). p.col) e in
@@ -95,8 +95,8 @@ module _ {C : Type 0} where
     demand_by-in_order : (xs : List (Position × C)) → AllPairs Precedes xs → StandInOrder (map (demand_by direction grid measure) xs)
     demand_by-in_order [] precede = λ i j d l l'. absurd (omega arith)
     demand_by-in_order (x ∷ xs) precede =
-        AllPairs-cons (λ a b. IsBefore (place_of a) (place_of b)) (demand_by direction grid measure x) (map (demand_by direction grid measure) xs)
-        (All-map (λ b. IsBefore (place_of (demand_by direction grid measure x)) (place_of b)) (demand_by direction grid measure) xs (λ k d l. precede 0 (suc k) d (omega arith) (omega arith)))
+        AllPairs-cons (λ a b. IsBefore (position_of a) (position_of b)) (demand_by direction grid measure x) (map (demand_by direction grid measure) xs)
+        (All-map (λ b. IsBefore (position_of (demand_by direction grid measure x)) (position_of b)) (demand_by direction grid measure) xs (λ k d l. precede 0 (suc k) d (omega arith) (omega arith)))
         (demand_by-in_order xs (λ i j d l l'. precede (suc i) (suc j) d (omega arith) (omega arith)))
 
     pub in_order-demands : (rows : List (List C)) → StandInOrder (demands_of direction grid measure rows)
@@ -105,7 +105,7 @@ module _ {C : Type 0} where
     pub AreDistinct-demands : (rows : List (List C)) → AreDistinct (demands_of direction grid measure rows)
     AreDistinct-demands rows i j d l l' = differ (get_or (demands_of direction grid measure rows) i d) (get_or (demands_of direction grid measure rows) j d) (in_order-demands rows i j d l l')
 
-  -- what a walk kept of told rows is what the table asks for
+  -- what a walk kept of rows that records yield is what the table asks for
   pub AreGathered-demands : (direction : Direction) (grid : Grid) (measure : C → ℕ × ℕ) (columns : ℕ) (rows : List (List C)) (kept : Demands) →
       count_along direction columns (length rows) ≤ limit_along direction columns → HoldsDemands (limit_along direction columns) kept (demands_of direction grid measure rows) →
       AreGathered (count_along direction columns (length rows)) kept (demands_of direction grid measure rows)

@@ -29,24 +29,24 @@ stays (m ∷ ms) (suc i) zero h = h
 stays (m ∷ ms) (suc i) (suc j) h = stays ms i j h
 
 -- those of the first positions, and of one more
-pub one_more : (marks : List Bool) (count at i : ℕ) (places : List Position) → at ≡ slot count (get_or places i (record { row = 0; col = 0 })) → at < length marks → i < length places →
-    All (IsSet marks count) (take i places) → All (IsSet (set marks at true) count) (take (i + 1) places)
-one_more marks count at i places is within inside were =
-    let p = get_or places i (record { row = 0; col = 0 }) in
+pub one_more : (marks : List Bool) (count at i : ℕ) (positions : List Position) → at ≡ slot count (get_or positions i (record { row = 0; col = 0 })) → at < length marks → i < length positions →
+    All (IsSet marks count) (take i positions) → All (IsSet (set marks at true) count) (take (i + 1) positions)
+one_more marks count at i positions is within inside were =
+    let p = get_or positions i (record { row = 0; col = 0 }) in
     let next : i + 1 ≡ suc i = omega arith in
-    let cut : take (i + 1) places ≡ take i places ++ p ∷ [] = ap (λ n. take n places) next ∙ take-suc places i (record { row = 0; col = 0 }) inside in
+    let cut : take (i + 1) positions ≡ take i positions ++ p ∷ [] = ap (λ n. take n positions) next ∙ take-suc positions i (record { row = 0; col = 0 }) inside in
     subst (All (IsSet (set marks at true) count)) (sym cut)
-    (All-push (IsSet (set marks at true) count) (take i places) p
-    (All-weaker (IsSet marks count) (IsSet (set marks at true) count) (λ q. stays marks at (slot count q)) (take i places) were)
+    (All-push (IsSet (set marks at true) count) (take i positions) p
+    (All-weaker (IsSet marks count) (IsSet (set marks at true) count) (λ q. stays marks at (slot count q)) (take i positions) were)
     (ap (λ k. get_or (set marks at true) k false) (sym is) ∙ get_or-set_same marks at true false within))
 
 -- ---- what a filter tells
 
-member_holds : (P : Position → Type 0) (places : List Position) (p : Position) → All P places → is_member position_eq places p ≡ true → P p
+member_holds : (P : Position → Type 0) (positions : List Position) (p : Position) → All P positions → is_member position_eq positions p ≡ true → P p
 member_holds P [] p all member = absurd (false≢true member)
-member_holds P (q ∷ places) p all member = elim (cases_Bool (position_eq p q)) [
-  | inl t ↦ subst P (sym (exact_position_eq p q t)) (All-head P q places all)
-  | inr f ↦ let member' : is_member position_eq places p ≡ true = rw f at member in member_holds P places p (All-tail P q places all) member'
+member_holds P (q ∷ positions) p all member = elim (cases_Bool (position_eq p q)) [
+  | inl t ↦ subst P (sym (exact_position_eq p q t)) (All-head P q positions all)
+  | inr f ↦ let member' : is_member position_eq positions p ≡ true = rw f at member in member_holds P positions p (All-tail P q positions all) member'
 ]
 
 has_none : {A : Type 0} (o : Option A) → is_some o ≡ false → o ≡ None

@@ -60,7 +60,7 @@ module _ {C : Type 0} (direction : Direction) (grid : Grid) (measure : C → ℕ
   pub keeps_none : (kept : Demands) → grid.shows p ≡ false → AddsDemands kept kept (demands_by direction grid measure ((p, cell) ∷ []))
   keeps_none kept hidden = subst (λ demands. AddsDemands kept kept demands) (sym (no_demand hidden)) (adds_none kept)
 
-  -- what is kept of a cell by what was read of it, in a place Told that speaks of one result
+  -- what is kept of a cell by what was read of it, in a predicate Told that speaks of one result
   pub keeps_one : (Told : Type 0 → Type 0) (old new : Demands) (seen : Anchor × Paddings) (size : ℕ)
       → ((grid : Grid) → seen.0 ≡ anchor_in grid seen.0.position → seen.1 ≡ paddings_at grid seen.0.position
       → Told (AddsDemands old new (demand_of direction seen.0.position (grid.span direction seen.0.position)

@@ -1,4 +1,4 @@
--- The visible cells of told rows with their positions, and what they ask for along a direction.
+-- The visible cells of rows that records yield with their positions, and what they ask for along a direction.
 use Rattle.std.specs.Prelude.{ℕ, ◌+◌, List, [], ◌∷◌, ◌++◌, length, map, filter}
 use Rattle.papergrid_values.specs.declared.position.Position.{Position}
 use Rattle.papergrid_tracks.specs.declared.demand.Demand.{Demand}

@@ -50,10 +50,10 @@ fn keep_along(
     paddings: Paddings,
 ) -> Result<(), AllocError>
     requires { (1 ≤ anchor.cols) × (1 ≤ anchor.rows) }
-    ensures { (grid : Grid) → let place = anchor.position in
-        anchor ≡ anchor_in grid place → paddings ≡ paddings_at grid place →
-        let minimum = size + grid.before direction place + grid.after direction place in
-        let demand = demand_of direction place (grid.span direction place) minimum in
+    ensures { (grid : Grid) → let position = anchor.position in
+        anchor ≡ anchor_in grid position → paddings ≡ paddings_at grid position →
+        let minimum = size + grid.before direction position + grid.after direction position in
+        let demand = demand_of direction position (grid.span direction position) minimum in
         OnOk result (AddsDemands kept.old kept.new (demand ∷ [])) }
 {
     let Paddings {

@@ -5,7 +5,7 @@ use Rattle.papergrid_values.specs.declared.position.Position.{Position}
 use Rattle.papergrid_config.specs.declared.setting.Setting.{Setting}
 use Rattle.papergrid_config.specs.declared.spanned.SpannedConfig.{SpannedConfig}
 use Rattle.papergrid_layout.specs.Certificates.{Solution}
-use Rattle.papergrid_builder.specs.Told.{FoundTable, ToldTable}
+use Rattle.papergrid_builder.specs.BuilderStates.{FoundTable, BuilderState}
 
 -- a code of positions, and so of the cells of a certificate
 abbrev pub places_code : Coded (Option (List Position))
@@ -26,7 +26,7 @@ found_code c =
     (λ p. record { config = p.0; along = record { columns = p.1.0; rows = p.1.1 } }) (λ _. refl)
 
 -- a code of what is told, by one of settings and one of configurations
-abbrev pub told_code : Coded Setting → Coded SpannedConfig → Coded ToldTable
+abbrev pub told_code : Coded Setting → Coded SpannedConfig → Coded BuilderState
 told_code s c =
     code_by (List Setting × (List (List (List ℕ)) × (Bool × (Option FoundTable × List ℕ))))
     (coded× (coded_list s) (coded× (coded_list (coded_list (coded_list coded_ℕ))) (coded× coded_bool (coded× (coded_option (found_code c)) (coded_list coded_ℕ)))))

@@ -6,7 +6,7 @@ use Rattle.papergrid_layout.specs.Tables.{TableParts}
 use Rattle.papergrid_tracks.specs.declared.sizing.Sizing.{Sizing}
 use Rattle.papergrid_json.specs.Documents.{AreInRange}
 use Rattle.papergrid_builder.specs.Layouts.{IsFoundTable, parts_found}
-use Rattle.papergrid_builder.specs.Told.{FoundTable, ToldTable}
+use Rattle.papergrid_builder.specs.BuilderStates.{FoundTable, BuilderState}
 use Rattle.papergrid_builder.specs.ForProofs.Texts.{AreStarts, rows_told}
 use Rattle.papergrid_builder.specs.declared.found.Found.{Found}
 
@@ -19,7 +19,7 @@ abbrev pub found_parts : Found → TableParts
 found_parts found = parts_found (found_of found)
 
 -- what is told of a table that is kept so
-abbrev pub told_by : List Setting → List (List ℕ) → List ℕ → Bool → Option Found → List ℕ → ToldTable
+abbrev pub told_by : List Setting → List (List ℕ) → List ℕ → Bool → Option Found → List ℕ → BuilderState
 told_by settings cells starts goes_on found picture = record {
   settings = settings;
   rows = rows_told cells starts;

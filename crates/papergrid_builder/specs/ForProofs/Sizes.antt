@@ -7,7 +7,7 @@ use Rattle.papergrid_draw.specs.declared.error.DrawError.{DrawError}
 use Rattle.papergrid_draw.specs.declared.error.DrawError.TheVariants as draw_errors
 use Rattle.papergrid_walk.specs.Measures.{text_measure}
 use Rattle.papergrid_draw.specs.Pictures.{IsFaultWith}
-use Rattle.papergrid_builder.specs.Told.{longest}
+use Rattle.papergrid_builder.specs.BuilderStates.{longest}
 use Rattle.papergrid_builder.specs.declared.error.BuilderError.{BuilderError}
 use Rattle.papergrid_builder.specs.declared.error.BuilderError.TheVariants.{Memory, NotTiled, OutOfTable, TooLarge}
 use Rattle.papergrid_layout.specs.Answers.{IsBothRefused}

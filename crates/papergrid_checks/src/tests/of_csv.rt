@@ -1,6 +1,6 @@
 //! Tables of CSV texts in frames of a caller's own. All others are cases of `papergrid_table`.
 
-use crate::csv_tables::csv_table_in_memory;
+use crate::csv_tables::{csv_fits, csv_table_in_memory};
 use papergrid::config::Position;
 use papergrid::grid::Junctions;
 use papergrid_csv::{Alignment, CsvEnd, Format, Request, Span, Style, record_start};
@@ -99,6 +99,23 @@ fn records_begin(rt: HostRuntime) {
             && begins(alloc, Format::Tsv, b"\"a\nb\n", 1, Some(3))
             && begins(alloc, csv, b"\"a\nb\n", 1, None)
             && begins(alloc, csv, b"a\n", 1, None)
+    );
+}
+
+/// Whether a text has a picture of at most so many columns.
+fn fits(alloc: Global, text: &[u8], width: usize) -> Option<bool> {
+    let mut request = Request::in_style(alloc, Style::Rounded);
+    csv_fits(alloc, width, &mut request, text).ok()
+}
+
+/// One letter takes five columns with its paddings and lines. Bytes that are no text have no picture.
+#[test]
+fn pictures_that_fit(rt: HostRuntime) {
+    let alloc = rt.alloc();
+    assert!(rt;
+        fits(alloc, b"a\n", 5) == Some(true)
+            && fits(alloc, b"a\n", 4) == Some(false)
+            && fits(alloc, b"\xff\n", 5) == Some(false)
     );
 }
 

@@ -29,13 +29,13 @@ abbrev pub AllNarrow : ℕ → List ℕ → Type 0
 AllNarrow columns characters = (m : ℕ) → 1 ≤ m → m ≤ length characters → str_width false (take m characters) < columns
 
 -- the characters of a line up to this byte are narrow so, and with the next one they are not
-pub record IsCutAt (columns : ℕ) (line : List ℕ) (place : ℕ) : Type 0 where
+pub record IsCutAt (columns : ℕ) (line : List ℕ) (count : ℕ) : Type 0 where
   pub kept : List ℕ
   pub next : ℕ
   pub left : List ℕ
   pub characters : chars line ≡ kept ++ next ∷ left
-  pub taken : take place line ≡ encode_utf8_all kept
-  pub boundary : IsCharBoundary line place
+  pub taken : take count line ≡ encode_utf8_all kept
+  pub boundary : IsCharBoundary line count
   pub narrow : AllNarrow columns kept
   pub wide : columns ≤ str_width false (kept ++ next ∷ [])
 

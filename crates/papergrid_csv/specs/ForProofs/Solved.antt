@@ -9,6 +9,9 @@ use Rattle.papergrid_config.specs.declared.spanned.SpannedConfig.{SpannedConfig}
 use Rattle.papergrid_walk.specs.Measures.{text_measure}
 use Rattle.papergrid_layout.specs.Answers.{HoldAlong}
 use Rattle.papergrid_layout.specs.Certificates.{IsCertifiedBy}
+use Rattle.papergrid_draw.specs.Drawings.{layout_of}
+use Rattle.papergrid_draw.specs.Pictures.{texts_drawing}
+use Rattle.papergrid_draw.specs.Tiles.{IsTiled}
 use Rattle.papergrid_draw.specs.declared.error.DrawError.{DrawError}
 use Rattle.papergrid_draw.specs.declared.error.DrawError.TheVariants.{Memory}
 use Rattle.papergrid_csv.specs.Pictures.{IsConfigured}
@@ -17,10 +20,10 @@ use Rattle.papergrid_csv.specs.Shown.{AreCut}
 use Rattle.papergrid_csv.specs.ForProofs.Drawn.{IsFree}
 use Rattle.papergrid_csv.specs.declared.request.Request.{Request}
 
--- of rows of texts by a configuration
-abbrev pub AreConfigSolved : Request → ℕ → List (List (List ℕ)) → SpannedConfig → PerDirection Solved → Type 0
-AreConfigSolved request columns texts config found =
-    HoldAlong (spanned_grid config) text_measure columns texts (IsCertifiedBy request.sizing) found.columns found.rows
+-- of rows of texts by a configuration, whose spans tile them
+pub record AreConfigSolved (request : Request) (columns : ℕ) (texts : List (List (List ℕ))) (config : SpannedConfig) (found : PerDirection Solved) : Type 0 where
+  pub certified : HoldAlong (spanned_grid config) text_measure columns texts (IsCertifiedBy request.sizing) found.columns found.rows
+  pub tiled : IsTiled (layout_of (texts_drawing config texts found.columns.sizes.items found.rows.sizes.items))
 
 -- by settings
 abbrev pub AreSettingsSolved : Request → List Setting → ℕ × ℕ → ℕ → List (List (List ℕ)) → PerDirection Solved → Type 0

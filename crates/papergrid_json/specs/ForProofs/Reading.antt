@@ -5,7 +5,7 @@ use Rattle.serde_json.specs.Data.{Data}
 use Rattle.serde_json.specs.Read.{read}
 use Rattle.serde_json.specs.View.{view}
 use Rattle.serde_json.specs.declared.value.Value.{Value}
-use Rattle.papergrid_json.specs.Documents.{AreColors, IsDocument, Told, told_in, are_enough, fitted, document_texts, longest_row, own_sizes}
+use Rattle.papergrid_json.specs.Documents.{AreColors, IsDocument, DocumentOptions, document_parts_in, are_enough, fitted, document_texts, longest_row, own_sizes}
 use Rattle.papergrid_json.specs.declared.document.Document.{Document}
 use Rattle.papergrid_json.specs.declared.document.Draft.{Draft}
 use Rattle.papergrid_json.specs.declared.document.OwnSizes.{OwnSizes}
@@ -56,20 +56,20 @@ IsJsonRead text (Err error) = ⊥
 
 -- what is read of a JSON value: what it tells, where it tells a document
 abbrev pub IsTableRead : Data → Result Document DocumentError → Type 0
-IsTableRead value (Ok document) = (told : Told × List (List (List ℕ))) × (told_in value ≡ Some told) × IsDocument told document
+IsTableRead value (Ok document) = (told : DocumentOptions × List (List (List ℕ))) × (document_parts_in value ≡ Some told) × IsDocument told document
 IsTableRead value (Err document_error.Memory) = ⊤
 IsTableRead value (Err (document_error.Syntax line byte)) = ⊥
-IsTableRead value (Err error) = told_in value ≡ None
+IsTableRead value (Err error) = document_parts_in value ≡ None
 
 -- a fault in words of its own, or out of memory
 abbrev pub IsErrorOf : Fault → DocumentError → Type 0
 IsErrorOf f document_error.Memory = ⊤
-IsErrorOf (fault.Unexpected place wanted) (document_error.Unexpected path words) = words ≡ wanted
+IsErrorOf (fault.Unexpected at wanted) (document_error.Unexpected path words) = words ≡ wanted
 IsErrorOf (fault.UnknownSetting index name) (document_error.UnknownSetting number word) = (number ≡ index) × (string_bytes word ≡ name.now)
 IsErrorOf f error = ⊥
 
 -- the draft of what is told
-pub record IsDraft (told : Told) (draft : Draft) : Type 0 where
+pub record IsDraft (told : DocumentOptions) (draft : Draft) : Type 0 where
   pub columns : draft.columns ≡ told.columns
   pub settings : draft.settings.items ≡ told.settings
   pub sizes : option_map own_sizes draft.sizes ≡ told.sizes

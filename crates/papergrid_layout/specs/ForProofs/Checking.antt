@@ -13,16 +13,16 @@ use Rattle.papergrid_walk.specs.ForProofs.Visits.{demands_by-append}
 
 -- the cells at these positions are visible
 abbrev pub AreShown : Grid → List Position → Type 0
-AreShown grid places = All (λ p. IsTrue (grid.shows p)) places
+AreShown grid positions = All (λ p. IsTrue (grid.shows p)) positions
 
 -- the positions of a candidate that is said to be in order are those of visible cells
 abbrev pub IsShownCandidate : Grid → Candidate → Type 0
-IsShownCandidate grid candidate = candidate.is_ordered ≡ true → AreShown grid candidate.places.now
+IsShownCandidate grid candidate = candidate.is_ordered ≡ true → AreShown grid candidate.positions.now
 
 -- what was kept of the demands of some cells
 abbrev pub ChecksBy : Grid → Candidate → Checked → List Demand → Type 0
 ChecksBy grid candidate checked demands =
-    Checks (grid.draws candidate.direction (length candidate.sizes.now)) candidate.sizes.now candidate.places.now candidate.direction (grid.span candidate.direction) checked demands
+    Checks (grid.draws candidate.direction (length candidate.sizes.now)) candidate.sizes.now candidate.positions.now candidate.direction (grid.span candidate.direction) checked demands
 
 -- whatever was kept, these further demands were checked besides
 abbrev pub ChecksMore : Grid → Candidate → Checked → Checked → List Demand → Type 0

@@ -37,7 +37,7 @@ fn laws_of_maps() {
     maps::visible_by_rectangles();
     maps::equal_maps_by_history::<char>();
     maps::visible_where_not_hidden();
-    maps::spans_by_place();
+    maps::spans_by_index();
     maps::equal_maps::<char>();
     maps::equal_spans();
     maps::equal_clones::<char>();

@@ -19,7 +19,7 @@ abbrev pub line_of : Direction → Position → ℕ
 line_of Columns p = p.row
 line_of Rows p = p.col
 
--- the line of a position as a row, and its place in that line as a column
+-- the line of a position as a row, and its index in that line as a column
 abbrev pub key_of : Direction → Position → Position
 key_of direction p = record { row = line_of direction p; col = along direction p }
 
@@ -138,14 +138,14 @@ covers anchor columns rows p =
 
 -- one of the positions lies in the rectangle of an entry by key, by its span and the span of the other direction
 abbrev pub covers_stored : Direction → FinMap position_cmp ℕ → List Position → Position × ℕ → Bool
-covers_stored direction others places e =
+covers_stored direction others positions e =
     let anchor = key_of direction e.0 in
     let extent = extent_of direction e.1 (span_at others anchor) in
-    list_any (covers anchor extent.columns extent.rows) places
+    list_any (covers anchor extent.columns extent.rows) positions
 
 -- one of the positions lies in the rectangle of an anchor with a span of the direction
 abbrev pub CoversOne : DirectedSpans → FinMap position_cmp ℕ → List Position → Type 0
-CoversOne index others places =
+CoversOne index others positions =
     (anchor : Position) × IsSome (get index.spans anchor)
     × (let extent = extent_of index.direction (span_at index.spans anchor) (span_at others anchor) in
-    IsTrue (list_any (covers anchor extent.columns extent.rows) places))
+    IsTrue (list_any (covers anchor extent.columns extent.rows) positions))

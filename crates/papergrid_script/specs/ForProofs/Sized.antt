@@ -10,6 +10,6 @@ use Rattle.papergrid_script.specs.Estimates.{Estimate, OutOfTable, TooLarge, Siz
 -- what is estimated is so; out of memory says nothing
 abbrev pub GivesEstimate : Result (PerDirection Solved) LayoutError → (Estimate → Type 0) → Type 0
 GivesEstimate (Ok found) IsSo = IsSo (Sized (solutions_of found))
-GivesEstimate (Err (layout_errors.OutOfTable place)) IsSo = IsSo (OutOfTable place)
+GivesEstimate (Err (layout_errors.OutOfTable position)) IsSo = IsSo (OutOfTable position)
 GivesEstimate (Err layout_errors.TooLarge) IsSo = IsSo TooLarge
 GivesEstimate (Err (layout_errors.Memory e)) IsSo = Unit {0}

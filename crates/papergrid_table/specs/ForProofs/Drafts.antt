@@ -12,7 +12,7 @@ use Rattle.papergrid_script.specs.declared.program.arguments.Unexpected.{Unexpec
 use Rattle.papergrid_csv.specs.Styles.{fitting_frame, style_frame, style_head, style_padding}
 use Rattle.papergrid_csv.specs.declared.request.Request.{Request}
 use Rattle.papergrid_csv.specs.declared.style.Style.{Style}
-use Rattle.papergrid_table.specs.Arguments.{AreFitting, IsMisuseOf, WordsSaid, OptionsTold, column_told}
+use Rattle.papergrid_table.specs.Arguments.{AreFitting, IsMisuseOf, WordsSaid, GivenOptions, column_told}
 use Rattle.papergrid_table.specs.Values.{left_and_right}
 use Rattle.papergrid_table.specs.declared.arguments.Draft.{Draft}
 use Rattle.papergrid_table.specs.declared.arguments.Misuse.{Misuse}
@@ -20,7 +20,7 @@ use Rattle.papergrid_table.specs.declared.arguments.Misuse.TheVariants as misuse
 use Rattle.papergrid_table.specs.declared.chosen.Chosen.{Chosen}
 
 -- what options told that are chosen so
-abbrev pub told_of : Chosen → OptionsTold
+abbrev pub told_of : Chosen → GivenOptions
 told_of chosen = record {
   kind = chosen.kind;
   delimiter = chosen.delimiter;

@@ -17,9 +17,9 @@ module _ {L : Type 0} where
     pub last : lines.last_ends ≡ count_by has_last (values lines.values)
     pub unique : IsUnique nat_eq lines.values
 
-  -- one of them ends at the place of so many with that end set, by the counts
+  -- one of them ends at the index of so many with that end set, by the counts
   abbrev pub reaches : ℕ → ℕ → Lines L → Bool
-  reaches place count lines = (place == 0 && nat_lt 0 lines.first_ends) || (place == count && nat_lt 0 lines.last_ends)
+  reaches index count lines = (index == 0 && nat_lt 0 lines.first_ends) || (index == count && nat_lt 0 lines.last_ends)
 
 -- a line is stored there, or one of two counts is above 0
 abbrev pub is_stored : {L S : Type 0} → HashMap ℕ L S → LineCounts → LineCounts → ℕ → Bool

@@ -15,8 +15,8 @@ line_count_of counts line = unwrap_or (get nat_eq counts line) 0
 
 -- how many of the positions stand on the line
 abbrev pub number_on : Direction → ℕ → List Position → ℕ
-number_on direction line places = count_by (λ p. along direction p == line) places
+number_on direction line positions = count_by (λ p. along direction p == line) positions
 
 -- each line's count is how many of the positions stand on it
 abbrev pub AreCounts : {S : Type 0} → Direction → HashMap ℕ ℕ S → List Position → Type 0
-AreCounts direction counts places = (line : ℕ) → line_count_of counts line ≡ number_on direction line places
+AreCounts direction counts positions = (line : ℕ) → line_count_of counts line ≡ number_on direction line positions

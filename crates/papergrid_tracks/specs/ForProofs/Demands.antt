@@ -4,7 +4,7 @@ use Rattle.std.specs.List.{list_any}
 use Rattle.papergrid_tracks.specs.declared.demand.Demand.{Demand}
 use Rattle.papergrid_tracks.specs.declared.demands.Demands.{Demands}
 use Rattle.papergrid_values.specs.Positions.{IsBefore}
-use Rattle.papergrid_tracks.specs.Ranges.{place_of}
+use Rattle.papergrid_tracks.specs.Ranges.{position_of}
 use Rattle.papergrid_tracks.specs.Sizes.{base_size}
 
 -- whether the minimum size is past the greatest `usize`
@@ -52,7 +52,7 @@ AddsDemands old new further = (limit : ℕ) (demands : List Demand) → HoldsDem
 
 -- the cells stand by row and then by column
 abbrev pub StandInOrder : List Demand → Type 0
-StandInOrder demands = AllPairs (λ d e. IsBefore (place_of d) (place_of e)) demands
+StandInOrder demands = AllPairs (λ d e. IsBefore (position_of d) (position_of e)) demands
 
 -- these are the demands of a table of n tracks, and they were kept by a limit that tells which of those that cover one track
 -- alone are in the table

@@ -2,7 +2,7 @@
 use Rattle.std.specs.Prelude.{ℕ, zero, suc, ◌+◌, ◌-◌, Bool, ◌&&◌, ◌||◌, ◌==◌, nat_lt, if◌then◌else◌, List, [], find, Option, Some, None, slice_index_or}
 use Rattle.papergrid_values.specs.declared.position.Position.{Position}
 use Rattle.papergrid_tracks.specs.declared.demand.Demand.{Demand}
-use Rattle.papergrid_tracks.specs.Ranges.{end_of, place_of}
+use Rattle.papergrid_tracks.specs.Ranges.{end_of, position_of}
 use Rattle.papergrid_tracks.specs.ForProofs.Demands.{no_demand}
 use Rattle.papergrid_tracks.specs.CriticalPath.{is_tight, with_earlier}
 
@@ -22,7 +22,7 @@ is_before p q = nat_lt p.row q.row || (p.row == q.row && nat_lt p.col q.col)
 abbrev pub earlier_cell : Option Demand → Option Demand → Option Demand
 earlier_cell None other = other
 earlier_cell (Some d) None = Some d
-earlier_cell (Some d) (Some e) = if is_before (place_of e) (place_of d) then Some e else Some d
+earlier_cell (Some d) (Some e) = if is_before (position_of e) (position_of d) then Some e else Some d
 
 -- whether the cell is tight at the boundary at i, by these boundaries
 abbrev pub is_tight_by : (Demand → ℕ) → (ℕ → ℕ) → ℕ → Demand → Bool

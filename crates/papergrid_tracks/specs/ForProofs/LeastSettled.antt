@@ -25,10 +25,10 @@ pub record AreLowestPositions (problem : Problem) (lines : List Bool) (boundarie
   pub boundary_at : (i : ℕ) → i ≤ problem.count →
       slice_index boundaries i ≡ lowest_position (net_minimum problem.line) problem.demands i
 
--- the places of cells, of which there always are some, and which certify the least sizes where the demands stand in order
+-- the positions of cells, of which there always are some, and which certify the least sizes where the demands stand in order
 abbrev pub IsCriticalPathInOrder : {Z : Type 0} → Problem → Option (Vec Position Z) → Type 0
 IsCriticalPathInOrder problem None = ⊥
-IsCriticalPathInOrder problem (Some places) = StandInOrder problem.demands → AreCriticalPath problem places.items
+IsCriticalPathInOrder problem (Some positions) = StandInOrder problem.demands → AreCriticalPath problem positions.items
 
 -- what certifies the sizes; of least ones it is told where the demands stand in order
 abbrev pub CertifiesInOrder : Sizing → Problem → Option (Vec Position Global) → Type 0

@@ -9,7 +9,7 @@ use Rattle.papergrid_tracks.specs.ForProofs.Laid.{AreLaid}
 
 -- too large, of which this is known; an allocation may fail in place of any answer
 abbrev pub Refuses : Type 0 → LayoutError → Type 0
-Refuses too_large (OutOfTable place) = ⊥
+Refuses too_large (OutOfTable position) = ⊥
 Refuses too_large TooLarge = too_large
 Refuses too_large (Memory e) = ⊤
 

@@ -12,7 +12,7 @@ abbrev pub end_at : MaxTree → ℕ → ℕ
 end_at Top column = 0
 end_at (Level' ends p above) column = greater (slice_index ends.items column) (end_at above (column / 2))
 
--- the levels have a place for each range up to the column
+-- the levels have room for each range up to the column
 abbrev pub HasLevels : MaxTree → ℕ → Type 0
 HasLevels Top columns = columns ≡ 0
 HasLevels (Level' ends p above) columns = (columns ≤ length ends.items) × HasLevels above (columns / 2)

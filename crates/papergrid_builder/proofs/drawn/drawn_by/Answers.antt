@@ -2,7 +2,7 @@ use Rattle.std.proofs.Common.{◌∙◌, ap, refl}
 use Rattle.std.proofs.lemmas.Result.{err_from_is_err_and}
 use Rattle.papergrid_draw.specs.Pictures.{Undrawn}
 use Rattle.papergrid_draw.proofs.PictureLemmas.{drawing-told, has-room, refusal-told, room-with}
-use Rattle.papergrid_builder.specs.Told.{longest}
+use Rattle.papergrid_builder.specs.BuilderStates.{longest}
 use Rattle.papergrid_builder.specs.ForProofs.Texts.{rows_lent}
 use Rattle.papergrid_builder.proofs.DrawLemmas.{undrawn-refused, undrawn-unsized}
 use Rattle.papergrid_builder.proofs.drawn.drawn_by.Goals as goal

@@ -1,7 +1,7 @@
 use Rattle.std.proofs.lemmas.Result.{err_from_is_err_and}
 use Rattle.papergrid_layout.proofs.MadeLemmas.{chosen-fit}
 use Rattle.papergrid_walk.specs.Measures.{text_measure}
-use Rattle.papergrid_builder.specs.Told.{longest}
+use Rattle.papergrid_builder.specs.BuilderStates.{longest}
 use Rattle.papergrid_builder.specs.ForProofs.Texts.{rows_lent}
 use Rattle.papergrid_builder.specs.ForProofs.Kept.{found_of}
 use Rattle.papergrid_builder.proofs.DrawLemmas.{not-found, totals-found}

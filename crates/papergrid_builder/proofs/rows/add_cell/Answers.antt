@@ -1,7 +1,7 @@
 use Rattle.std.proofs.Common.{◌≡◌, ◌∙◌, ◌<◌, ◌++◌, ◌∷◌, [], ap, arith, inl, inr, length, length-append, subst, sym, vec_len}
 use Rattle.std.proofs.lemmas.Bool.Decides.{nat_tests}
 use Rattle.std.proofs.lemmas.List.{nil_from_length}
-use Rattle.papergrid_builder.specs.Told.{in_last_row}
+use Rattle.papergrid_builder.specs.BuilderStates.{in_last_row}
 use Rattle.papergrid_builder.specs.ForProofs.Texts.{AreStarts, rows_told}
 use Rattle.papergrid_builder.proofs.TextLemmas.{after-push, new-row, rows-go-on, rows-more, starts-after, starts-more}
 use Rattle.papergrid_builder.proofs.rows.add_cell.Goals as goal

@@ -2,7 +2,7 @@ use Rattle.std.proofs.Common.{◌≡◌, ◌∙◌, ◌<◌, ◌++◌, [], ◌�
 use Rattle.std.specs.Prelude.{◌==◌}
 use Rattle.std.specs.List.{slice_split}
 use Rattle.std.proofs.lemmas.Bool.Decides.{nat_tests}
-use Rattle.papergrid_builder.specs.Told.{rows_in}
+use Rattle.papergrid_builder.specs.BuilderStates.{rows_in}
 use Rattle.papergrid_builder.specs.ForProofs.Texts.{AreStarts, rows_told}
 use Rattle.papergrid_builder.proofs.TextLemmas.{first-kept, rows-more, rows-step, starts-more}
 use Rattle.papergrid_builder.proofs.rows.cut_rows.Goals as goal

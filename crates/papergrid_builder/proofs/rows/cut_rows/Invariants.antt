@@ -1,6 +1,6 @@
 use Rattle.std.proofs.Common.{◌≡◌, ◌++◌, length, take}
 use Rattle.std.specs.Prelude.{IsUtf8}
-use Rattle.papergrid_builder.specs.Told.{rows_in}
+use Rattle.papergrid_builder.specs.BuilderStates.{rows_in}
 use Rattle.papergrid_builder.specs.ForProofs.Texts.{AreStarts, rows_told}
 use Rattle.papergrid_builder.proofs.rows.cut_rows.Given as goal
 

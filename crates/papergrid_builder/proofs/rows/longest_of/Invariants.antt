@@ -1,5 +1,5 @@
 use Rattle.std.proofs.Common.{◌≡◌, take}
-use Rattle.papergrid_builder.specs.Told.{longest}
+use Rattle.papergrid_builder.specs.BuilderStates.{longest}
 use Rattle.papergrid_builder.specs.ForProofs.Texts.{rows_lent}
 use Rattle.papergrid_builder.proofs.rows.longest_of.Given as goal
 

@@ -7,5 +7,5 @@ use Rattle.papergrid_csv.proofs.cutting.push_cut.Goals as goal
 
 pub returns : goal.returns
 returns c =
-    adds-cut c.push.result c.args.columns c.cut_place-place.result c.args.line.now c.range.result.now _ _ _ (omega arith) c.cut_place-place.ensures c.range.ensures.value
+    adds-cut c.push.result c.args.columns c.kept_bytes-count.result c.args.line.now c.range.result.now _ _ _ (omega arith) c.kept_bytes-count.ensures c.range.ensures.value
     c.in_ok-push_str.ensures.bytes (pushed c.push.result (string_bytes c.push_str-2.new.self) _ (encode 0x2026) _ c.push.ensures.bytes refl)

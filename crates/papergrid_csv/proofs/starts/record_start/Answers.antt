@@ -1,6 +1,6 @@
 use Rattle.std.proofs.Common.{◌∙◌, ◌≡◌, ◌-◌, ap, arith, length, refl, subst, sym}
 use Rattle.papergrid_csv.specs.Starts.{after_line_ends}
-use Rattle.papergrid_csv.specs.declared.quotes.Place.TheVariants.{Start}
+use Rattle.papergrid_csv.specs.declared.quotes.Context.TheVariants.{Start}
 use Rattle.papergrid_csv.proofs.QuoteLemmas.{short-unmarked}
 use Rattle.papergrid_csv.proofs.StartLemmas.{IsLeft, left-first, left-next, left-none, left-some, none-left, shorter-behind, shorter-ends, some-left}
 use Rattle.papergrid_csv.proofs.starts.record_start.Goals as goal

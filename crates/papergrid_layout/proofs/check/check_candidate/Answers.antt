@@ -17,7 +17,7 @@ returns g c =
     let same = c.count_of-count.ensures ∙ (λ k. count_along candidate.direction (c.count_columns-columns.ensures k) (found.2.1 k)) in (
       found.0,
       found.1,
-      subst (λ n. IsChecked (problem_with grid measured candidate.direction n found.0) candidate.sizes.now candidate.places.now c.accepts.result) same
-          (checked-of (λ n. problem_of_demands (grid.draws candidate.direction n) c.count_of-count.result demands) candidate.sizes.now candidate.places.now c.accepts.result c.count_of-count.result (λ n. refl)
+      subst (λ n. IsChecked (problem_with grid measured candidate.direction n found.0) candidate.sizes.now candidate.positions.now c.accepts.result) same
+          (checked-of (λ n. problem_of_demands (grid.draws candidate.direction n) c.count_of-count.result demands) candidate.sizes.now candidate.positions.now c.accepts.result c.count_of-count.result (λ n. refl)
           (c.accepts.ensures.exact demands distinct found.2.0) (c.accepts.ensures.least demands distinct found.2.0)),
     )

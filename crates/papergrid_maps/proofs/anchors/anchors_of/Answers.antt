@@ -2,7 +2,7 @@ use Rattle.std.proofs.Common.{◌∙◌, rules, sym}
 use Rattle.std.proofs.lemmas.Bool.{true≢false}
 use Rattle.std.proofs.lemmas.Fn.{dedup_same}
 use Rattle.std.proofs.lemmas.List.Sorted.{answers_always}
-use Rattle.papergrid_maps.proofs.AnchorLemmas.{alone-at, anchors-stored, anchors-of, joined-at, rising-dedup, same_place, sorted-from_rising}
+use Rattle.papergrid_maps.proofs.AnchorLemmas.{alone-at, anchors-stored, anchors-of, joined-at, rising-dedup, same_position, sorted-from_rising}
 use Rattle.papergrid_maps.proofs.anchors.anchors_of.Goals as goal
 
 pub returns-then-not-holds_any : goal.returns-then-not-holds_any
@@ -16,7 +16,7 @@ returns-then-not-holds_any c =
 
 pub returns : goal.returns
 returns c =
-    let kept = dedup_same _ same_place _ (λ x y b f' x' y' k. search rules) _ _ c.dedup_by_key.ensures.filtered in
+    let kept = dedup_same _ same_position _ (λ x y b f' x' y' k. search rules) _ _ c.dedup_by_key.ensures.filtered in
     let moved = rw c.in_ok-append.ensures.items at c.sort_by_key.ensures.permutation in
     let at = joined-at c.args.columns.now c.args.rows.now c.requires.columns _ _ _ c.requires.rows c.in_ok-anchors.ensures.spans c.in_ok-others.ensures.spans moved in
     record {

@@ -9,25 +9,25 @@ use Rattle.papergrid_maps.specs.ForProofs.SpanIndex.{covers}
 use Rattle.papergrid_maps.proofs.CoverLemmas.{never_falls, none_before, none_past}
 use Rattle.papergrid_maps.proofs.covering.covers_one.Goals as goal
 
-abbrev no_place : Position
-no_place = record { row = 0; col = 0 }
+abbrev no_position : Position
+no_position = record { row = 0; col = 0 }
 
 pub loop-i-init : goal.loop-i-init
 loop-i-init c =
     let number : Position → ℕ = along c.args.direction in
-    let parted = IsPartitionedBy-ltb number c.args.places.now c.number_of-start.result (never_falls c.args.direction c.args.places.now c.requires) in
+    let parted = IsPartitionedBy-ltb number c.args.positions.now c.number_of-start.result (never_falls c.args.direction c.args.positions.now c.requires) in
     let point = IsPartitionPoint-from_clause (λ p. ltb (number p) c.number_of-start.result) _ _ c.partition_point-first.ensures.partitioned parted (λ a r q k. search (rules, of_calls)) in (
-      λ k p l. none_before c.args.anchor c.args.columns c.args.rows (get_or c.args.places.now k p) c.args.direction
-          (let before = ltb-true (number (get_or c.args.places.now k p)) c.number_of-start.result (point.0 k p (omega arith) l) in
+      λ k p l. none_before c.args.anchor c.args.columns c.args.rows (get_or c.args.positions.now k p) c.args.direction
+          (let before = ltb-true (number (get_or c.args.positions.now k p)) c.number_of-start.result (point.0 k p (omega arith) l) in
           let start = c.number_of-start.ensures in omega arith),
       λ k p le l.
-          let past = ltb-false (number (get_or c.args.places.now k p)) c.number_of-start.result (point.1 k p le l) in
+          let past = ltb-false (number (get_or c.args.positions.now k p)) c.number_of-start.result (point.1 k p le l) in
           let start = c.number_of-start.ensures in omega arith,
     )
 
 pub overflow_sub-number_of : goal.overflow_sub-number_of
 overflow_sub-number_of c =
-    let past = c.loop-i.invariant.1 c.loop-i.i no_place (omega arith) c.loop-i-test.true in
+    let past = c.loop-i.invariant.1 c.loop-i.i no_position (omega arith) c.loop-i-test.true in
     let start = c.number_of-start.ensures in
     let number = c.number_of.ensures in
     omega arith
@@ -36,8 +36,8 @@ pub loop-i-preserved : goal.loop-i-preserved
 loop-i-preserved c = (
   λ k p (l : k < c.loop-i.i + 1). elim (cases_eq k c.loop-i.i) [
     | inl e ↦
-        let own : get_or c.args.places.now k p ≡ get_or c.args.places.now c.loop-i.i no_place =
-        rw e (get_or_default c.args.places.now c.loop-i.i p no_place c.loop-i-test.true) in
+        let own : get_or c.args.positions.now k p ≡ get_or c.args.positions.now c.loop-i.i no_position =
+        rw e (get_or_default c.args.positions.now c.loop-i.i p no_position c.loop-i-test.true) in
         ap (covers c.args.anchor c.args.columns c.args.rows) own ∙ sym c.is_covered.ensures ∙ c.if-is_covered.false
     | inr ne ↦ c.loop-i.invariant.0 k p (omega arith)
   ],
@@ -49,22 +49,22 @@ returns-then-number_of-start c =
     let number : Position → ℕ = along c.args.direction in
     let start : c.number_of-start.result ≡ number c.args.anchor = c.number_of-start.ensures in
     let span : c.number_of-span.result ≡ along c.args.direction (record { row = c.args.rows; col = c.args.columns }) = c.number_of-span.ensures ∙ ap (along c.args.direction) c.new.ensures in
-    let here : c.number_of.result ≡ number (get_or c.args.places.now c.loop-i.i no_place) = c.number_of.ensures in
-    let reached : number c.args.anchor ≤ number (get_or c.args.places.now c.loop-i.i no_place) = c.loop-i.invariant.1 c.loop-i.i no_place (omega arith) c.loop-i-test.true in
+    let here : c.number_of.result ≡ number (get_or c.args.positions.now c.loop-i.i no_position) = c.number_of.ensures in
+    let reached : number c.args.anchor ≤ number (get_or c.args.positions.now c.loop-i.i no_position) = c.loop-i.invariant.1 c.loop-i.i no_position (omega arith) c.loop-i-test.true in
     let past : c.number_of-span.result ≤ c.number_of.result - c.number_of-start.result = c.if-number_of-start.true in
-    sym (list_any_none _ _ (λ k p (l : k < length c.args.places.now). elim (cases_lt k c.loop-i.i) [
+    sym (list_any_none _ _ (λ k p (l : k < length c.args.positions.now). elim (cases_lt k c.loop-i.i) [
       | inl before ↦ c.loop-i.invariant.0 k p before
-      | inr after ↦ none_past c.args.anchor c.args.columns c.args.rows (get_or c.args.places.now k p) c.args.direction (elim (cases_eq k c.loop-i.i) [
-        | inl e ↦ rw (e, get_or_default c.args.places.now c.loop-i.i p no_place c.loop-i-test.true) (omega arith)
+      | inr after ↦ none_past c.args.anchor c.args.columns c.args.rows (get_or c.args.positions.now k p) c.args.direction (elim (cases_eq k c.loop-i.i) [
+        | inl e ↦ rw (e, get_or_default c.args.positions.now c.loop-i.i p no_position c.loop-i-test.true) (omega arith)
         | inr ne ↦
-            let rises : number (get_or c.args.places.now c.loop-i.i p) < number (get_or c.args.places.now k p) = c.requires c.loop-i.i k p (omega arith) l in
-            let same : number (get_or c.args.places.now c.loop-i.i p) ≡ number (get_or c.args.places.now c.loop-i.i no_place) = ap number (get_or_default c.args.places.now c.loop-i.i p no_place c.loop-i-test.true) in
+            let rises : number (get_or c.args.positions.now c.loop-i.i p) < number (get_or c.args.positions.now k p) = c.requires c.loop-i.i k p (omega arith) l in
+            let same : number (get_or c.args.positions.now c.loop-i.i p) ≡ number (get_or c.args.positions.now c.loop-i.i no_position) = ap number (get_or_default c.args.positions.now c.loop-i.i p no_position c.loop-i-test.true) in
             omega arith
       ])
     ]))
 
 pub returns-then-is_covered : goal.returns-then-is_covered
-returns-then-is_covered c = sym (list_any_at _ _ c.loop-i.i no_place c.loop-i-test.true (sym c.is_covered.ensures ∙ c.if-is_covered.true))
+returns-then-is_covered c = sym (list_any_at _ _ c.loop-i.i no_position c.loop-i-test.true (sym c.is_covered.ensures ∙ c.if-is_covered.true))
 
 pub returns : goal.returns
-returns c = sym (list_any_none _ _ (λ k p (l : k < length c.args.places.now). c.loop-i.invariant.0 k p (omega (arith, c.loop-i-test.false))))
+returns c = sym (list_any_none _ _ (λ k p (l : k < length c.args.positions.now). c.loop-i.invariant.0 k p (omega (arith, c.loop-i-test.false))))

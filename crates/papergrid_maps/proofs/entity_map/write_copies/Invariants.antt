@@ -3,5 +3,5 @@ use Rattle.papergrid_values.specs.MapKeys.{position_eq}
 use Rattle.papergrid_maps.proofs.WrittenCopies.{Written}
 use Rattle.papergrid_maps.proofs.entity_map.write_copies.Given as goal
 
-abbrev pub invariant-loop-place : goal.invariant-loop-place
-invariant-loop-place g l = Written l.place-index l.places l.value l.copies.items (spare l.cells) (get position_eq l.cells) (get position_eq l.initial.cells)
+abbrev pub invariant-loop-position : goal.invariant-loop-position
+invariant-loop-position g l = Written l.position-index l.positions l.value l.copies.items (spare l.cells) (get position_eq l.cells) (get position_eq l.initial.cells)

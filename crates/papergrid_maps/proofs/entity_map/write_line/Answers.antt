@@ -18,5 +18,5 @@ pub returns-clause-ok : goal.returns-clause-ok
 returns-clause-ok g c = (
   λ q. c.put.ensures.updates.0 q ∙ ap (cond (eqb c.args.index q) (Some c.args.value)) (c.reserve.ensures.entries.2 q),
   λ p. c.in_ok-write_copies.ensures.ok p
-      ∙ ap (λ places. cond (is_member position_eq places p) (Some c.args.value) (get position_eq c.args.cells.now p)) c.as_slice.ensures.value,
+      ∙ ap (λ positions. cond (is_member position_eq positions p) (Some c.args.value) (get position_eq c.args.cells.now p)) c.as_slice.ensures.value,
 )

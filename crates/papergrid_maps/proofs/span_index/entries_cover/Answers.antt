@@ -5,5 +5,5 @@ use Rattle.papergrid_maps.specs.ForProofs.SpanIndex.{covers_stored}
 use Rattle.papergrid_maps.proofs.span_index.entries_cover.Goals as goal
 
 pub returns : goal.returns
-returns c = any_from_yields_List (covers_stored c.args.direction c.args.others.now.spans c.args.places.now) _ _ _ c.any.ensures.ran
+returns c = any_from_yields_List (covers_stored c.args.direction c.args.others.now.spans c.args.positions.now) _ _ _ c.any.ensures.ran
     (YieldsList-from_rest c.args.spans.now.entries c.iter.ensures.rest) (λ x b q k. search rules)

@@ -22,15 +22,15 @@ returns-in-Ok c =
 pub returns-in-Err-OutOfTable : goal.returns-in-Err-OutOfTable
 returns-in-Err-OutOfTable c =
     let script = c.args.script in
-    let place = c.in-Err-OutOfTable.position in
+    let position = c.in-Err-OutOfTable.position in
     let gave = gives_seen (λ cell. cell.now) script c.in_ok-config.config _ _ c.args.sizing c.estimate.result c.in_ok-config.ensures.told (ap (λ r. r.iter.items) c.new-records.ensures) (ap (λ r. r.count_columns) c.new-records.ensures) c.estimate.ensures in
     let is = rw (c.in-Err-OutOfTable.is, c.in-Err-OutOfTable.field-0-is) at gave in
     let spans = span_history (flat_map span_calls (map setting_told script.settings.items)) c.in_ok-config.config.spans c.in_ok-config.ensures.told.spans in
-    let down = c.spans_at-spans.ensures.rows ∙ ap (λ s. span_along s Rows place) spans in
-    let across = c.spans_at-spans.ensures.columns ∙ ap (λ s. span_along s Columns place) spans in
+    let down = c.spans_at-spans.ensures.rows ∙ ap (λ s. span_along s Rows position) spans in
+    let across = c.spans_at-spans.ensures.columns ∙ ap (λ s. span_along s Columns position) spans in
     let rows = c.len-count.ensures ∙ script.rows.ok.0 ∙ sym (length-map script.rows.items (λ row. row_texts_of row.now)) in
-    let told : Some (reason.OutOfTable place c.spans_at-spans.result (c.len-count.result, script.columns)) ≡ estimate_reason (table_seen script) (OutOfTable place) =
-    λ i. Some (reason.OutOfTable place (down i, across i) (rows i, script.columns)) in
+    let told : Some (reason.OutOfTable position c.spans_at-spans.result (c.len-count.result, script.columns)) ≡ estimate_reason (table_seen script) (OutOfTable position) =
+    λ i. Some (reason.OutOfTable position (down i, across i) (rows i, script.columns)) in
     told ∙ ap (estimate_reason (table_seen script)) is
 
 pub returns-in-Err-TooLarge : goal.returns-in-Err-TooLarge

@@ -1,4 +1,4 @@
-use Rattle.papergrid_script.proofs.TellsLemmas.{told, none_bad, first_bad_named, first_bad_found}
+use Rattle.papergrid_script.proofs.DescribesLemmas.{told, none_bad, first_bad_named, first_bad_found}
 use Rattle.papergrid_script.proofs.laws.script_by_lines.Goals as goal
 
 pub returns : goal.returns

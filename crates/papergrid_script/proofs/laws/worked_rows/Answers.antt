@@ -5,14 +5,14 @@ use Rattle.std.specs.Str.{chars, is_utf8}
 use Rattle.unicode_width.specs.Width.{str_width, step, past_emoji}
 use Rattle.papergrid_script.specs.Texts.{unescaped}
 use Rattle.papergrid_text.specs.Text.{character_of}
-use Rattle.papergrid_script.specs.Grammar.{number_said, position_said, placed_span, entity_said, sides_of, padding_of, placed_character, keyword_setting, keyword_says, text_says, line_says, script_lines}
+use Rattle.papergrid_script.specs.Grammar.{number_said, position_said, position_and_count, entity_said, sides_of, padding_of, number_and_character, keyword_setting, keyword_says, text_says, line_says, script_lines}
 use Rattle.papergrid_script.specs.Scripts.{table_of}
 use Rattle.papergrid_script.specs.Estimates.{estimate_by}
 use Rattle.papergrid_script.proofs.ListedLemmas.{worked}
 use Rattle.papergrid_script.proofs.laws.worked_rows.Goals as goal
 
 pub returns : goal.returns
-unfolding table_of script_lines line_says text_says keyword_says keyword_setting placed_character character_of padding_of sides_of entity_said placed_span position_said number_said unescaped chars is_utf8 encode estimate_by str_width step past_emoji digits
+unfolding table_of script_lines line_says text_says keyword_says keyword_setting number_and_character character_of padding_of sides_of entity_said position_and_count position_said number_said unescaped chars is_utf8 encode estimate_by str_width step past_emoji digits
 returns c = record {
   first_run = worked _ _ _ _ refl refl;
   short_row = worked _ _ _ _ refl refl;

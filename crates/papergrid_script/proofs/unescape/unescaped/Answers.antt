@@ -21,8 +21,8 @@ split_around-requires-clause-ascii c =
 
 cut_there : (spelled plain after : List ℕ) (at : ℕ) → IsFirstEscape spelled at → at < length spelled → plain ≡ take at spelled → after ≡ drop (at + 1) spelled → IsCut spelled plain after
 cut_there spelled plain after at first within before behind =
-    let place : at ≡ position_or_len is_backslash spelled = omega arith in
-    (before ∙ ap (λ k. take k spelled) place, behind ∙ ap (λ k. drop (k + 1) spelled) place, omega arith)
+    let position : at ≡ position_or_len is_backslash spelled = omega arith in
+    (before ∙ ap (λ k. take k spelled) position, behind ∙ ap (λ k. drop (k + 1) spelled) position, omega arith)
 
 pub returns : goal.returns
 returns c =

@@ -8,4 +8,4 @@ use Rattle.papergrid_tables.proofs.counted_parts.take_part.Goals as goal
 
 pub returns-clause-less : goal.returns-clause-less
 returns-clause-less g c = λ direction n.
-    count_removed (λ p. eqb (along direction p) n) (position_eq c.args.place) c.args.place (λ q h. sym (exact_position_eq c.args.place q h)) c.args.map.now.entries c.remove.new.self.entries c.is_some.result c.remove.ensures.entries (c.is_some.ensures ∙ ap is_some c.remove.ensures.value)
+    count_removed (λ p. eqb (along direction p) n) (position_eq c.args.position) c.args.position (λ q h. sym (exact_position_eq c.args.position q h)) c.args.map.now.entries c.remove.new.self.entries c.is_some.result c.remove.ensures.entries (c.is_some.ensures ∙ ap is_some c.remove.ensures.value)

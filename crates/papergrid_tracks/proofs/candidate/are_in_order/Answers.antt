@@ -6,8 +6,8 @@ use Rattle.papergrid_tracks.specs.ForProofs.Checks.{AreInOrder}
 use Rattle.papergrid_tracks.proofs.CandidateLemmas.{AreInOrder-trans, chain-more}
 use Rattle.papergrid_tracks.proofs.candidate.are_in_order.Goals as goal
 
-abbrev no_place : Position
-no_place = record { row = 0; col = 0 }
+abbrev no_position : Position
+no_position = record { row = 0; col = 0 }
 
 pub loop-i-preserved : goal.loop-i-preserved
 loop-i-preserved g c =
@@ -16,8 +16,8 @@ loop-i-preserved g c =
     let next = c.if-not-is_before.ensures.0 refl in
     let one : 1 ≤ c.loop-i.i = c.loop-i.invariant.0 in (
       omega arith,
-      chain-more order (AreInOrder-trans c.args.direction span_of) c.args.places.now c.loop-i.i one c.loop-i.invariant.1
-          (λ p. subst₂ order (get_or_default c.args.places.now (c.loop-i.i - 1) no_place p (omega (arith, c.loop-i-test.true))) (get_or_default c.args.places.now c.loop-i.i no_place p (omega (arith, c.loop-i-test.true))) next),
+      chain-more order (AreInOrder-trans c.args.direction span_of) c.args.positions.now c.loop-i.i one c.loop-i.invariant.1
+          (λ p. subst₂ order (get_or_default c.args.positions.now (c.loop-i.i - 1) no_position p (omega (arith, c.loop-i-test.true))) (get_or_default c.args.positions.now c.loop-i.i no_position p (omega (arith, c.loop-i-test.true))) next),
     )
 
 pub returns : goal.returns
@@ -27,5 +27,5 @@ pub returns-then-not-is_before : goal.returns-then-not-is_before
 returns-then-not-is_before g c =
     let one : 1 ≤ c.loop-i.i = c.loop-i.invariant.0 in (
       (λ t. absurd (false≢true t)),
-      λ pairs. c.if-not-is_before.ensures.1 (pairs (c.loop-i.i - 1) c.loop-i.i no_place (omega arith) c.loop-i-test.true),
+      λ pairs. c.if-not-is_before.ensures.1 (pairs (c.loop-i.i - 1) c.loop-i.i no_position (omega arith) c.loop-i-test.true),
     )

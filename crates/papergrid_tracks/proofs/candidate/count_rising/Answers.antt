@@ -9,11 +9,11 @@ bit_of false = refl
 
 pub returns-in_default : goal.returns-in_default
 returns-in_default c =
-    sym (listed-none c.args.direction c.args.places.now c.args.place c.index_rising-at.result c.requires (rw c.number_of.ensures at c.index_rising-at.ensures) c.in_default.ensures.lookup.3)
+    sym (listed-none c.args.direction c.args.positions.now c.args.position c.index_rising-at.result c.requires (rw c.number_of.ensures at c.index_rising-at.ensures) c.in_default.ensures.lookup.3)
 
 pub returns : goal.returns
 returns c =
     let listed = c.in-Some.ensures.lookup in
-    let same : c.eq.result ≡ is_same c.args.place (get_or c.args.places.now c.index_rising-at.result c.in-Some.listed.now) = c.eq.ensures ∙ ap (is_same c.args.place) listed.1 in
+    let same : c.eq.result ≡ is_same c.args.position (get_or c.args.positions.now c.index_rising-at.result c.in-Some.listed.now) = c.eq.ensures ∙ ap (is_same c.args.position) listed.1 in
     c.from.ensures ∙ bit_of c.eq.result ∙ ap (λ b. cond b 1 0) same
-    ∙ sym (listed-at c.args.direction c.args.places.now c.args.place c.index_rising-at.result c.requires (rw c.number_of.ensures at c.index_rising-at.ensures) c.in-Some.listed.now (omega arith))
+    ∙ sym (listed-at c.args.direction c.args.positions.now c.args.position c.index_rising-at.result c.requires (rw c.number_of.ensures at c.index_rising-at.ensures) c.in-Some.listed.now (omega arith))

@@ -7,9 +7,9 @@ use Rattle.papergrid_tracks.proofs.candidate.index_rising.Goals as goal
 
 pub returns : goal.returns
 returns c =
-    let parted = IsPartitionedBy-ltb (along c.args.direction) c.args.places.now c.args.start (never_falls c.args.direction c.args.places.now c.requires) in
+    let parted = IsPartitionedBy-ltb (along c.args.direction) c.args.positions.now c.args.start (never_falls c.args.direction c.args.positions.now c.requires) in
     IsPartitionPoint-from_clause (λ p. nat_lt (along c.args.direction p) c.args.start) _ _ c.partition_point.ensures.partitioned parted (λ a r q k. search (rules, of_calls))
 
 pub returns-then-number_of-start : goal.returns-then-number_of-start
 returns-then-number_of-start c =
-    point-guess c.args.direction c.args.places.now c.args.start _ c.requires c.if-start-places.true (sym c.number_of.ensures ∙ c.if-number_of-start.true)
+    point-guess c.args.direction c.args.positions.now c.args.start _ c.requires c.if-start-positions.true (sym c.number_of.ensures ∙ c.if-number_of-start.true)

@@ -2,7 +2,7 @@ use Rattle.std.proofs.Common.{◌≡◌, ◌∙◌, ap, ap₂, sym, refl, subst,
 use Rattle.std.proofs.lemmas.Bool.{false≢true}
 use Rattle.papergrid_tracks.specs.Certificates.{certificate_cells}
 use Rattle.papergrid_tracks.specs.ForProofs.LastCells.{AreExact, IsLaminarInOrder}
-use Rattle.papergrid_tracks.specs.Ranges.{place_of}
+use Rattle.papergrid_tracks.specs.Ranges.{position_of}
 use Rattle.papergrid_tracks.proofs.Theorems.{table-by_span, table-growing, Fits-sizes_of}
 use Rattle.papergrid_tracks.proofs.CertificateLemmas.{AreChosen-from_laminar, AreExact-settled, NoneCertify-unless_laminar, IsLaminarInOrder-growing_cells}
 use Rattle.papergrid_tracks.proofs.certificate.certificate_of.Goals as goal
@@ -18,15 +18,15 @@ returns-then-not-branch-clause-asked c = λ problem kept grown asked.
     let none = rw c.if-not-branch.true at c.in_ok-is_laminar_in_order.ensures in
     NoneCertify-unless_laminar problem grown.table grown.total (λ laminar. false≢true (none.1 (subst IsLaminarInOrder (sym grown.in_order) laminar)))
 
-pub certifying_places-requires-clause-growing_cells : goal.certifying_places-requires-clause-growing_cells
-certifying_places-requires-clause-growing_cells c =
+pub certifying_positions-requires-clause-growing_cells : goal.certifying_positions-requires-clause-growing_cells
+certifying_positions-requires-clause-growing_cells c =
     let problem = c.requires.0 in
     let grown = c.requires.2 in
     let many : length c.args.sizes.now ≡ problem.count = ap length grown.shares ∙ (Fits-sizes_of problem grown.table).one_each in
     rw (grown.grew, many) (table-growing problem grown.table)
 
-pub certifying_places-requires-clause-laminar : goal.certifying_places-requires-clause-laminar
-certifying_places-requires-clause-laminar c =
+pub certifying_positions-requires-clause-laminar : goal.certifying_positions-requires-clause-laminar
+certifying_positions-requires-clause-laminar c =
     let grown = c.requires.2 in
     let laminar = (rw c.if-not-branch.false at c.in_ok-is_laminar_in_order.ensures).0 refl in
     subst IsLaminarInOrder (sym grown.grew) (IsLaminarInOrder-growing_cells c.requires.0 (subst IsLaminarInOrder grown.in_order laminar))
@@ -37,7 +37,7 @@ returns-clause-asked c = λ problem kept grown asked.
     let laminar = (rw c.if-not-branch.false at c.in_ok-is_laminar_in_order.ensures).0 refl in
     let exact : AreExact problem.demands c.args.growing_cells.now c.args.sizes.now c.deref.result.now =
     rw (grown.grew, grown.shares, c.deref.ensures.value) (AreExact-settled problem c.args.kept.now kept grown.table grown.total) in
-    AreChosen-from_laminar problem grown.table grown.total c.in_ok-places.places.items
-    (c.in_ok-places.ensures problem.demands exact
-    ∙ ap (map place_of) (ap (λ k. certificate_cells k problem.demands c.args.growing_cells.now c.args.sizes.now) many ∙ ap₂ (certificate_cells problem.count problem.demands) grown.grew grown.shares))
+    AreChosen-from_laminar problem grown.table grown.total c.in_ok-positions.positions.items
+    (c.in_ok-positions.ensures problem.demands exact
+    ∙ ap (map position_of) (ap (λ k. certificate_cells k problem.demands c.args.growing_cells.now c.args.sizes.now) many ∙ ap₂ (certificate_cells problem.count problem.demands) grown.grew grown.shares))
     (subst IsLaminarInOrder grown.in_order laminar)

@@ -14,58 +14,58 @@ returns-then-has_room_alone-clause-checks g c = λ demands before.
     let line : ℕ → _ = g.A.Axis.line c.args.axis.now in
     let candidate = c.args.candidate.now in
     let span_of = g.A.Axis.span_of c.args.axis.now in
-    let d = demand_of candidate.direction c.args.place (span_of c.args.place) c.args.minimum in
+    let d = demand_of candidate.direction c.args.position (span_of c.args.position) c.args.minimum in
     let alone = c.if-has_room_alone.ensures refl in
-    let at : c.number_of-start.result ≡ along candidate.direction c.args.place = c.number_of-start.ensures in
-    let below : along candidate.direction c.args.place < length candidate.sizes.now = omega (arith, at, alone.1) in
-    let stays = c.requires.ordered.within alone.0 c.args.place below in
-    let enough : c.args.minimum ≤ slice_index candidate.sizes.now (along candidate.direction c.args.place) = subst (λ s. c.args.minimum ≤ slice_index candidate.sizes.now s) at alone.2 in
-    let first : slice_index candidate.sizes.now (along candidate.direction c.args.place) ≤ range_sum candidate.sizes.now d = first_of_range candidate.sizes.now d stays.0 below in
+    let at : c.number_of-start.result ≡ along candidate.direction c.args.position = c.number_of-start.ensures in
+    let below : along candidate.direction c.args.position < length candidate.sizes.now = omega (arith, at, alone.1) in
+    let stays = c.requires.ordered.within alone.0 c.args.position below in
+    let enough : c.args.minimum ≤ slice_index candidate.sizes.now (along candidate.direction c.args.position) = subst (λ s. c.args.minimum ≤ slice_index candidate.sizes.now s) at alone.2 in
+    let first : slice_index candidate.sizes.now (along candidate.direction c.args.position) ≤ range_sum candidate.sizes.now d = first_of_range candidate.sizes.now d stays.0 below in
     let has : HasRoom line candidate.sizes.now d = omega (arith, enough, first) in
-    let none : times_listed candidate.places.now d ≡ 0 = sym c.count_listed-times.ensures ∙ c.if-times-eq0.true in
-    let few : c.args.checked.found + times_listed candidate.places.now d ≤ length candidate.places.now = omega (arith, none, c.requires.bounded.few) in
-    let inside : along candidate.direction c.args.place + span_of c.args.place ≤ length candidate.sizes.now = stays.1 in
+    let none : times_listed candidate.positions.now d ≡ 0 = sym c.count_listed-times.ensures ∙ c.if-times-eq0.true in
+    let few : c.args.checked.found + times_listed candidate.positions.now d ≤ length candidate.positions.now = omega (arith, none, c.requires.bounded.few) in
+    let inside : along candidate.direction c.args.position + span_of c.args.position ≤ length candidate.sizes.now = stays.1 in
     let small : inner_lines line d ≤ 18446744073709551616 = omega (arith, inner_lines-span line d, inside) in
-    subst (λ r. Checks line candidate.sizes.now candidate.places.now candidate.direction span_of r (demands ++ d ∷ []))
-    (none_listed c.args.checked c.args.minimum (inner_lines line d) (times_listed candidate.places.now d) c.if-checked.true none)
-    (Checks-more line candidate.sizes.now candidate.places.now candidate.direction span_of c.args.checked demands d before refl stays.0 c.if-checked.true inside has few c.requires.minimum small)
+    subst (λ r. Checks line candidate.sizes.now candidate.positions.now candidate.direction span_of r (demands ++ d ∷ []))
+    (none_listed c.args.checked c.args.minimum (inner_lines line d) (times_listed candidate.positions.now d) c.if-checked.true none)
+    (Checks-more line candidate.sizes.now candidate.positions.now candidate.direction span_of c.args.checked demands d before refl stays.0 c.if-checked.true inside has few c.requires.minimum small)
 
 pub returns-then-times-candidate-clause-checks : goal.returns-then-times-candidate-clause-checks
 returns-then-times-candidate-clause-checks g c = λ demands before.
     let line : ℕ → _ = g.A.Axis.line c.args.axis.now in
     let span_of = g.A.Axis.span_of c.args.axis.now in
-    let d = demand_of c.args.candidate.now.direction c.args.place (g.A.Axis.span_of c.args.axis.now c.args.place) c.args.minimum in
-    let inside : along c.args.candidate.now.direction c.args.place + g.A.Axis.span_of c.args.axis.now c.args.place ≤ length c.args.candidate.now.sizes.now =
+    let d = demand_of c.args.candidate.now.direction c.args.position (g.A.Axis.span_of c.args.axis.now c.args.position) c.args.minimum in
+    let inside : along c.args.candidate.now.direction c.args.position + g.A.Axis.span_of c.args.axis.now c.args.position ≤ length c.args.candidate.now.sizes.now =
     omega (arith, c.in-Some.ensures.inside, c.number_of-start.ensures, c.span-span.ensures.value) in
     let has : HasRoom line c.args.candidate.now.sizes.now d = subst₂ (λ s n. HasRoom line c.args.candidate.now.sizes.now (range_of s n c.args.minimum)) c.number_of-start.ensures c.span-span.ensures.value c.in-Some.ensures.room in
-    let times : c.count_listed-times.result ≡ times_listed c.args.candidate.now.places.now d = c.count_listed-times.ensures in
+    let times : c.count_listed-times.result ≡ times_listed c.args.candidate.now.positions.now d = c.count_listed-times.ensures in
     let inner : c.in-Some.inner ≡ inner_lines line d = c.in-Some.ensures.inner ∙ ap₂ (λ s n. inner_lines line (range_of s n c.args.minimum)) c.number_of-start.ensures c.span-span.ensures.value in
-    let one : 1 ≤ g.A.Axis.span_of c.args.axis.now c.args.place = omega (arith, c.span-span.ensures.value, c.span-span.ensures.positive) in
+    let one : 1 ≤ g.A.Axis.span_of c.args.axis.now c.args.position = omega (arith, c.span-span.ensures.value, c.span-span.ensures.positive) in
     let small : inner_lines line d ≤ 18446744073709551616 = omega (arith, inner_lines-span line d, inside) in
-    let few : c.args.checked.found + times_listed c.args.candidate.now.places.now d ≤ length c.args.candidate.now.places.now = omega (arith, times, c.if-times-candidate.true, c.requires.bounded.few) in
-    subst (λ r. Checks line c.args.candidate.now.sizes.now c.args.candidate.now.places.now c.args.candidate.now.direction span_of r (demands ++ d ∷ []))
+    let few : c.args.checked.found + times_listed c.args.candidate.now.positions.now d ≤ length c.args.candidate.now.positions.now = omega (arith, times, c.if-times-candidate.true, c.requires.bounded.few) in
+    subst (λ r. Checks line c.args.candidate.now.sizes.now c.args.candidate.now.positions.now c.args.candidate.now.direction span_of r (demands ++ d ∷ []))
     (sym (c.with_cell.ensures ∙ ap₂ (λ (t i : ℕ). record { holds = true; found = c.args.checked.found + t; minimums = c.args.checked.minimums + c.args.minimum * t; inner = c.args.checked.inner + i * t }) times inner))
-    (Checks-more line c.args.candidate.now.sizes.now c.args.candidate.now.places.now c.args.candidate.now.direction span_of c.args.checked demands d before refl one (not-false c.args.checked.holds c.if-not-checked.false) inside has few c.requires.minimum small)
+    (Checks-more line c.args.candidate.now.sizes.now c.args.candidate.now.positions.now c.args.candidate.now.direction span_of c.args.checked demands d before refl one (not-false c.args.checked.holds c.if-not-checked.false) inside has few c.requires.minimum small)
 
 pub returns-else-times-candidate-clause-checks : goal.returns-else-times-candidate-clause-checks
 returns-else-times-candidate-clause-checks g c = λ demands before.
-    let d = demand_of c.args.candidate.now.direction c.args.place (g.A.Axis.span_of c.args.axis.now c.args.place) c.args.minimum in
-    let one : 1 ≤ g.A.Axis.span_of c.args.axis.now c.args.place = omega (arith, c.span-span.ensures.value, c.span-span.ensures.positive) in
-    let times : c.count_listed-times.result ≡ times_listed c.args.candidate.now.places.now d = c.count_listed-times.ensures in
-    let many : length c.args.candidate.now.places.now < c.args.checked.found + times_listed c.args.candidate.now.places.now d = omega (arith, times, c.if-times-candidate.false, c.requires.bounded.few) in
+    let d = demand_of c.args.candidate.now.direction c.args.position (g.A.Axis.span_of c.args.axis.now c.args.position) c.args.minimum in
+    let one : 1 ≤ g.A.Axis.span_of c.args.axis.now c.args.position = omega (arith, c.span-span.ensures.value, c.span-span.ensures.positive) in
+    let times : c.count_listed-times.result ≡ times_listed c.args.candidate.now.positions.now d = c.count_listed-times.ensures in
+    let many : length c.args.candidate.now.positions.now < c.args.checked.found + times_listed c.args.candidate.now.positions.now d = omega (arith, times, c.if-times-candidate.false, c.requires.bounded.few) in
     rw c.failed-else-times-candidate.ensures (Checks-fails _ _ _ _ _ c.args.checked demands d before refl one (λ so. too_many _ _ _ _ _ c.args.checked demands d before refl one so many))
 
 pub returns-in-None-clause-checks : goal.returns-in-None-clause-checks
 returns-in-None-clause-checks g c = λ demands before.
     let none = subst₂ (λ s n. s + n ≤ length c.args.candidate.now.sizes.now → HasRoom (g.A.Axis.line c.args.axis.now) c.args.candidate.now.sizes.now (range_of s n c.args.minimum) → ⊥) c.number_of-start.ensures c.span-span.ensures.value c.in-None.ensures.none in
-    let one : 1 ≤ g.A.Axis.span_of c.args.axis.now c.args.place = omega (arith, c.span-span.ensures.value, c.span-span.ensures.positive) in
+    let one : 1 ≤ g.A.Axis.span_of c.args.axis.now c.args.position = omega (arith, c.span-span.ensures.value, c.span-span.ensures.positive) in
     rw c.failed-in-None.ensures (Checks-fails _ _ _ _ _ c.args.checked demands _ before refl one (λ so. none_room _ _ _ _ _ c.args.checked demands _ before refl one none))
 
 -- after a cell that fails nothing changes
 pub returns-then-not-checked-clause-checks : goal.returns-then-not-checked-clause-checks
 returns-then-not-checked-clause-checks g c = λ demands before.
-    let one : 1 ≤ g.A.Axis.span_of c.args.axis.now c.args.place = omega (arith, c.span-span.ensures.value, c.span-span.ensures.positive) in
+    let one : 1 ≤ g.A.Axis.span_of c.args.axis.now c.args.position = omega (arith, c.span-span.ensures.value, c.span-span.ensures.positive) in
     rw c.failed.ensures (Checks-fails _ _ _ _ _ c.args.checked demands _ before refl one (λ so. absurd (true≢false (sym so ∙ not-true c.args.checked.holds c.if-not-checked.true))))
 
 pub count_listed-times-requires : goal.count_listed-times-requires
-count_listed-times-requires g c = λ t. rising-from_order c.args.candidate.now.direction (g.A.Axis.span_of c.args.axis.now) c.args.candidate.now.places.now (c.requires.ordered.ordered t)
+count_listed-times-requires g c = λ t. rising-from_order c.args.candidate.now.direction (g.A.Axis.span_of c.args.axis.now) c.args.candidate.now.positions.now (c.requires.ordered.ordered t)

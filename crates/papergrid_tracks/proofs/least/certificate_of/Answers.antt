@@ -5,4 +5,4 @@ use Rattle.papergrid_tracks.proofs.least.certificate_of.Goals as goal
 
 pub returns-clause-asked : goal.returns-clause-asked
 returns-clause-asked c = λ problem kept are asked in_order.
-    subst (AreCriticalPath problem) (sym (c.in_ok-places.ensures problem kept are in_order)) (AreCriticalPath-critical_path problem are.table are.none_out are.total)
+    subst (AreCriticalPath problem) (sym (c.in_ok-positions.ensures problem kept are in_order)) (AreCriticalPath-critical_path problem are.table are.none_out are.total)

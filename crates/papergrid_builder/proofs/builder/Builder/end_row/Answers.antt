@@ -1,7 +1,7 @@
 use Rattle.std.proofs.Common.{◌≡◌, ◌∙◌, ◌++◌, ◌∷◌, [], None, false, ap, append-nil, arith, length, refl, sym, subst}
 use Rattle.std.specs.Prelude.{option_map}
 use Rattle.papergrid_builder.specs.ForProofs.Kept.{found_of}
-use Rattle.papergrid_builder.specs.Told.{ToldTable, with_row_end}
+use Rattle.papergrid_builder.specs.BuilderStates.{BuilderState, with_row_end}
 use Rattle.papergrid_builder.specs.ForProofs.Texts.{AreStarts, rows_told}
 use Rattle.papergrid_builder.proofs.TextLemmas.{rows-more, starts-more}
 use Rattle.papergrid_builder.proofs.builder.Builder.end_row.Goals as goal
@@ -24,7 +24,7 @@ returns-clause-ok c =
     let rows : rows_told cells c.push.new.self.items ≡ rows_told cells starts ++ [] ∷ [] =
     ap (rows_told cells) (c.in_ok-push.ensures.items ∙ ap (λ n. starts ++ n ∷ []) c.len.ensures)
     ∙ ap (λ cs. rows_told cs (starts ++ length cells ∷ [])) (sym (append-nil cells)) ∙ rows-more cells [] starts c.self.invariant.within in
-    let told : ToldTable = record {
+    let told : BuilderState = record {
       settings = c.self.inside.settings.items;
       rows = rows_told cells starts;
       goes_on = c.self.inside.goes_on;
@@ -34,5 +34,5 @@ returns-clause-ok c =
     (λ i. record { settings = told.settings; rows = rows i; goes_on = told.goes_on; found = None; picture = told.picture })
     ∙ sym (one-more told c.if-self.false) ∙ ap with_row_end c.self.view_is
   where
-    one-more : (told : ToldTable) → told.goes_on ≡ false → with_row_end told ≡ record told { rows = told.rows ++ [] ∷ []; found = None }
+    one-more : (told : BuilderState) → told.goes_on ≡ false → with_row_end told ≡ record told { rows = told.rows ++ [] ∷ []; found = None }
     one-more told is = rw is refl

@@ -1,7 +1,7 @@
 use Rattle.std.proofs.Common.{Some, refl, subst}
 use Rattle.std.proofs.lemmas.Result.{err_from_is_err_and}
 use Rattle.papergrid_builder.specs.Layouts.{IsFoundTable, IsNoFoundTable}
-use Rattle.papergrid_builder.specs.Told.{ToldTable}
+use Rattle.papergrid_builder.specs.BuilderStates.{BuilderState}
 use Rattle.papergrid_builder.specs.ForProofs.Kept.{found_of}
 use Rattle.papergrid_builder.specs.ForProofs.Texts.{rows_told}
 use Rattle.papergrid_builder.proofs.builder.Builder.estimate.Goals as goal
@@ -11,7 +11,7 @@ returns-in_err-found-clause-fault c =
     let p = err_from_is_err_and c.from_residual.result c.from_residual.ensures.1 in
     let told = subst (λ starts. IsNoFoundTable c.self.inside.settings.items (rows_told c.self.inside.cells starts) c.args.sizing c.in_err-found.field-0.0) c.deref.ensures.value
     c.in_err-found.ensures.err in
-    rw (p.1, p.2) (subst (λ (t : ToldTable). IsNoFoundTable t.settings t.rows c.args.sizing c.in_err-found.field-0.0) c.self.view_is told)
+    rw (p.1, p.2) (subst (λ (t : BuilderState). IsNoFoundTable t.settings t.rows c.args.sizing c.in_err-found.field-0.0) c.self.view_is told)
 
 pub invariant_of-self : goal.invariant_of-self
 invariant_of-self c =
@@ -32,7 +32,7 @@ returns-clause-ok c =
     let told = subst (λ starts. IsFoundTable c.self.inside.settings.items (rows_told c.self.inside.cells starts) c.args.sizing found) c.deref.ensures.value
     c.in_ok-found.ensures.ok in (
       found,
-      subst (λ (t : ToldTable). IsFoundTable t.settings t.rows c.args.sizing found) c.self.view_is told,
+      subst (λ (t : BuilderState). IsFoundTable t.settings t.rows c.args.sizing found) c.self.view_is told,
       refl,
       λ i. record {
         settings = (c.self.view_is i).settings;

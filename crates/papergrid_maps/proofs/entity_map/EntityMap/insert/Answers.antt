@@ -17,7 +17,7 @@ pub returns-in_ok-crossings-in-Column-clause-ok : goal.returns-in_ok-crossings-i
 returns-in_ok-crossings-in-Column-clause-ok g c = on_ok_map c.write_line.result (λ written.
     history_from_step c.self.view_is (ap (λ e. Insert e c.args.value) c.in-Column.is)
     (step_insert_column _ c.args.value c.in-Column.col _ _ _ _ _ written.0
-    (λ p. written.1 p ∙ ap (λ places. cond (is_member position_eq places p) (Some c.args.value) (get position_eq c.self.inside.cells p)) c.in_ok-crossings-in-Column.ensures)))
+    (λ p. written.1 p ∙ ap (λ positions. cond (is_member position_eq positions p) (Some c.args.value) (get position_eq c.self.inside.cells p)) c.in_ok-crossings-in-Column.ensures)))
     c.write_line.ensures.ok
 
 pub returns-in_ok-crossings-in-Column-clause-err : goal.returns-in_ok-crossings-in-Column-clause-err
@@ -28,7 +28,7 @@ pub returns-in_ok-crossings-in-Row-clause-ok : goal.returns-in_ok-crossings-in-R
 returns-in_ok-crossings-in-Row-clause-ok g c = on_ok_map c.write_line-in-Row.result (λ written.
     history_from_step c.self.view_is (ap (λ e. Insert e c.args.value) c.in-Row.is)
     (step_insert_row _ c.args.value c.in-Row.row _ _ _ _ _ written.0
-    (λ p. written.1 p ∙ ap (λ places. cond (is_member position_eq places p) (Some c.args.value) (get position_eq c.self.inside.cells p)) c.in_ok-crossings-in-Row.ensures)))
+    (λ p. written.1 p ∙ ap (λ positions. cond (is_member position_eq positions p) (Some c.args.value) (get position_eq c.self.inside.cells p)) c.in_ok-crossings-in-Row.ensures)))
     c.write_line-in-Row.ensures.ok
 
 pub returns-in_ok-crossings-in-Row-clause-err : goal.returns-in_ok-crossings-in-Row-clause-err
