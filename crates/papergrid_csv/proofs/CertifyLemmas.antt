@@ -21,7 +21,7 @@ use Rattle.papergrid_walk.specs.Measures.{text_measure}
 use Rattle.papergrid_text.proofs.RowSteps.{told_by}
 use Rattle.papergrid_layout.specs.Answers.{AreBothSizes, HoldAlong, IsBothRefused, UnlessMemoryError}
 use Rattle.papergrid_layout.specs.Certificates.{IsCertifiedBy}
-use Rattle.papergrid_layout.specs.Places.{sized_table, total_along}
+use Rattle.papergrid_layout.specs.Places.{TableView, sized_table, total_along}
 use Rattle.papergrid_layout.proofs.PlaceLaws.{totals}
 use Rattle.papergrid_layout.proofs.Told.{both_told}
 use Rattle.papergrid_layout.proofs.TotalLemmas.{room-of}
@@ -30,7 +30,7 @@ use Rattle.papergrid_draw.specs.Errors.{draw_error_of}
 use Rattle.papergrid_draw.specs.Lined.{lined}
 use Rattle.papergrid_draw.specs.Pictures.{IsDrawingWith, Unsized, texts_drawing}
 use Rattle.papergrid_draw.specs.Sinks.{IsRefusal}
-use Rattle.papergrid_draw.specs.Tiles.{IsTileFault}
+use Rattle.papergrid_draw.specs.Tiles.{IsTileFault, IsTiled}
 use Rattle.papergrid_draw.specs.declared.error.DrawError.{DrawError}
 use Rattle.papergrid_draw.specs.declared.error.DrawError.TheVariants as draw_errors
 use Rattle.papergrid_csv.specs.Certified.{HasNoPicture, HasNoSizes, HasPicture, IsCsvCertified, has_sizes}
@@ -39,7 +39,7 @@ use Rattle.papergrid_csv.specs.Requests.{settings_of}
 use Rattle.papergrid_csv.specs.Rows.{AreRowsOf, IsUnread, held_texts, row_texts}
 use Rattle.papergrid_csv.specs.Shown.{AreCut}
 use Rattle.papergrid_csv.specs.ForProofs.Drawn.{Crossed, Faulted, IsConfigRun, IsFree, IsKeptBy, IsRowsRun, IsSettingsRun, Kept, Sized}
-use Rattle.papergrid_csv.specs.ForProofs.Solved.{AreRowsSolved, AreSettingsSolved, unless_refused}
+use Rattle.papergrid_csv.specs.ForProofs.Solved.{AreConfigSolved, AreRowsSolved, AreSettingsSolved, unless_refused}
 use Rattle.papergrid_csv.specs.declared.reading.RowsError.{RowsError}
 use Rattle.papergrid_csv.specs.declared.reading.RowsError.TheVariants as rows_errors
 use Rattle.papergrid_csv.specs.declared.request.Request.{Request}
@@ -69,7 +69,7 @@ module _ {A B R : Type 0} (seen : A → B) (text : B → List ℕ) (items : R �
   texts = map (λ row. map text (items row)) rows
 
   -- what is found of rows that are yielded is found of their texts
-  pub solved-told : (found : PerDirection Solved) →
+  solved-told : (found : PerDirection Solved) →
       ((cells : List (List A)) × (map (map seen) cells ≡ map items given)
       × HoldAlong (spanned_grid config) (λ x. text_measure (text (seen x))) many cells (IsCertifiedBy sizing) found.columns found.rows) →
       HoldAlong (spanned_grid config) text_measure columns texts (IsCertifiedBy sizing) found.columns found.rows
@@ -121,7 +121,7 @@ module _ (request : Request) (columns : ℕ) (texts : List (List (List ℕ))) (c
       let high = (room-of request.sizing (problem Rows) heights sized.heights).fits.one_each in
       ap own_shape (sym high) ∙ ap (λ n. (length heights, n)) (sym many)
 
-  pub shape-of : (many : ℕ) → length texts ≡ many → drawn_shape ≡ own_shape many
+  shape-of : (many : ℕ) → length texts ≡ many → drawn_shape ≡ own_shape many
   shape-of many counted = sym same-shape ∙ ap own_shape counted
 
   total-of : (direction : Direction) (answer : ℕ) → IsTotal request.sizing (problem direction) answer → answer ≡ total_along (layout_of d) direction
@@ -129,23 +129,51 @@ module _ (request : Request) (columns : ℕ) (texts : List (List (List ℕ))) (c
       let same = (totals request.sizing (spanned_grid config) text_measure columns texts widths heights sized direction answer).0 is in
       same ∙ ap (λ (shape : ℕ × ℕ). total_along (sized_table (spanned_grid config) widths heights shape) direction) same-shape
 
-  pub total-width : found.columns.total ≡ total_along (layout_of d) Columns
+  total-width : found.columns.total ≡ total_along (layout_of d) Columns
   total-width = total-of Columns found.columns.total (record { sizes = widths; are_sizes = certified.widths.sizes; adds_up = certified.widths.total })
 
-  pub total-height : found.rows.total ≡ total_along (layout_of d) Rows
+  total-height : found.rows.total ≡ total_along (layout_of d) Rows
   total-height = total-of Rows found.rows.total (record { sizes = heights; are_sizes = certified.heights.sizes; adds_up = certified.heights.total })
 
   -- spans keep it from its picture
   untiled : (e : DrawError) → IsRefusal e → IsTileFault (layout_of d) e → IsConfigRun request columns texts config (Refused e) []
   untiled e named fault = Sized d drawn (named, tile-fault d e fault named, refl)
 
-  pub untiled-none : (Q : PerDirection Solved → Type 0) (e : DrawError) → IsTileFault (layout_of d) e → IfOk (unless_refused e) (λ found. MatchOption found (HasNoSizes (IsConfigRun request columns texts config)) Q)
+  untiled-none : (Q : PerDirection Solved → Type 0) (e : DrawError) → IsTileFault (layout_of d) e → IfOk (unless_refused e) (λ found. MatchOption found (HasNoSizes (IsConfigRun request columns texts config)) Q)
   untiled-none Q (draw_errors.OutOfTable p) fault = (Refused (draw_errors.OutOfTable p), refl, untiled (draw_errors.OutOfTable p) tt fault)
   untiled-none Q (draw_errors.NotTiled p) fault = (Refused (draw_errors.NotTiled p), refl, untiled (draw_errors.NotTiled p) tt fault)
   untiled-none Q (draw_errors.NoRoom p) fault = absurd fault
   untiled-none Q draw_errors.TooLarge fault = absurd fault
   untiled-none Q (draw_errors.Memory e) fault = tt
   untiled-none Q draw_errors.Write fault = absurd fault
+
+-- ---- spans that tile a table, or do not
+
+module _ {A B R : Type 0} (seen : A → B) (text : B → List ℕ) (items : R → List B) (config : SpannedConfig) (request : Request)
+    {many columns : ℕ} (counted : many ≡ columns) {given rows : List R} (same : given ≡ rows) (found : PerDirection Solved)
+    (told : (cells : List (List A)) × (map (map seen) cells ≡ map items given)
+    × HoldAlong (spanned_grid config) (λ x. text_measure (text (seen x))) many cells (IsCertifiedBy request.sizing) found.columns found.rows) where
+  abbrev row_texts_of : R → List (List ℕ)
+  row_texts_of row = map text (items row)
+
+  certified-texts : HoldAlong (spanned_grid config) text_measure columns (map row_texts_of rows) (IsCertifiedBy request.sizing) found.columns found.rows
+  certified-texts = solved-told seen text items config request.sizing counted same found told
+
+  -- what holds of each table of this configuration and shape
+  abbrev HoldsOfTables : (TableView → Type 0) → Type 0
+  HoldsOfTables holds = (table : TableView) → table.grid ≡ spanned_grid config → table.shape ≡ (length rows, columns) → holds table
+
+  of-drawing : (holds : TableView → Type 0) → HoldsOfTables holds → holds (layout_of (d request columns (map row_texts_of rows) config found certified-texts))
+  of-drawing holds so =
+      so (layout_of (d request columns (map row_texts_of rows) config found certified-texts)) refl
+      (shape-of request columns (map row_texts_of rows) config found certified-texts (length rows) (length-map rows row_texts_of))
+
+  pub tiled-found : HoldsOfTables IsTiled → AreConfigSolved request columns (map row_texts_of rows) config found
+  tiled-found so = record { certified = certified-texts; tiled = of-drawing IsTiled so }
+
+  pub untiled-found : (Q : PerDirection Solved → Type 0) (e : DrawError) → HoldsOfTables (λ table. IsTileFault table e) →
+      IfOk (unless_refused e) (λ found. MatchOption found (HasNoSizes (IsConfigRun request columns (map row_texts_of rows) config)) Q)
+  untiled-found Q e so = untiled-none request columns (map row_texts_of rows) config found certified-texts Q e (of-drawing (λ table. IsTileFault table e) so)
 
 -- ---- settings
 

@@ -85,7 +85,7 @@ fn cut_that_fits(
         HasPicture (record request.old { cut = Some columns }) input.now)) }
 {
     let most = request.max_width.unwrap_or(0);
-    let Some(columns) = greatest_cut(request, widths, most) else {
+    let Some(columns) = sure_cut(request, widths, most) else {
         return Ok(None);
     };
     request.cut = Some(columns);
@@ -250,9 +250,9 @@ fn cell_name(
     Ok((head, line))
 }
 
-/// The greatest number of columns at which fields may be cut, so that a table of these widths and without spans is at most so
-/// wide.
-fn greatest_cut(request: &Request, widths: &Solved, most: usize) -> Option<usize> {
+/// The greatest cut by which a table of these widths and without spans is at most so wide, whatever its texts are. A greater one
+/// may do, too, where a cut falls into a character of two columns.
+fn sure_cut(request: &Request, widths: &Solved, most: usize) -> Option<usize> {
     if !request.spans.is_empty() {
         return None;
     }
