@@ -5,6 +5,9 @@ use Rattle.std.specs.Cmp.{nat_eq_equiv}
 use Rattle.std.proofs.lemmas.Bool.{and_from, and_parts, eqb-true, false≢true}
 use Rattle.papergrid_values.specs.contracts.position.PositionPartialEq.TheImpl as position
 use Rattle.papergrid_layout.proofs.EqualLemmas.{same-position}
+use Rattle.papergrid_draw.specs.declared.error.DrawError.{DrawError}
+use Rattle.papergrid_draw.specs.declared.error.DrawError.TheVariants as draw_errors
+use Rattle.papergrid_draw.specs.contracts.error.DrawErrorPartialEq.TheImpl as draw_error
 use Rattle.papergrid_tracks.specs.declared.sizing.Sizing.{Sizing}
 use Rattle.papergrid_tracks.specs.declared.sizing.Sizing.TheVariants.{ByShares, Least}
 use Rattle.papergrid_tracks.specs.contracts.sizing.SizingPartialEq.TheImpl as sizing
@@ -111,3 +114,54 @@ equal-reason TooLarge TooLarge is = refl
 
 pub same-reason : (x y : Reason) → (reason.ghosts.eq x y ≡ true) ↔ (x ≡ y)
 same-reason x y = (equal-reason x y, λ e. subst (λ z. reason.ghosts.eq x z ≡ true) e (itself-reason x))
+
+-- ---- why a table is not drawn
+
+itself-draw_error : (x : DrawError) → draw_error.ghosts.eq x x ≡ true
+itself-draw_error (draw_errors.OutOfTable p) = (same-position p p).1 refl
+itself-draw_error (draw_errors.NotTiled p) = (same-position p p).1 refl
+itself-draw_error (draw_errors.NoRoom p) = (same-position p p).1 refl
+itself-draw_error draw_errors.TooLarge = refl
+itself-draw_error (draw_errors.Memory e) = refl
+itself-draw_error draw_errors.Write = refl
+
+equal-draw_error : (x y : DrawError) → draw_error.ghosts.eq x y ≡ true → x ≡ y
+equal-draw_error (draw_errors.OutOfTable p) (draw_errors.OutOfTable q) is = ap (λ r. draw_errors.OutOfTable r) ((same-position p q).0 is)
+equal-draw_error (draw_errors.OutOfTable p) (draw_errors.NotTiled q) is = absurd (false≢true is)
+equal-draw_error (draw_errors.OutOfTable p) (draw_errors.NoRoom q) is = absurd (false≢true is)
+equal-draw_error (draw_errors.OutOfTable p) draw_errors.TooLarge is = absurd (false≢true is)
+equal-draw_error (draw_errors.OutOfTable p) (draw_errors.Memory e) is = absurd (false≢true is)
+equal-draw_error (draw_errors.OutOfTable p) draw_errors.Write is = absurd (false≢true is)
+equal-draw_error (draw_errors.NotTiled p) (draw_errors.OutOfTable q) is = absurd (false≢true is)
+equal-draw_error (draw_errors.NotTiled p) (draw_errors.NotTiled q) is = ap (λ r. draw_errors.NotTiled r) ((same-position p q).0 is)
+equal-draw_error (draw_errors.NotTiled p) (draw_errors.NoRoom q) is = absurd (false≢true is)
+equal-draw_error (draw_errors.NotTiled p) draw_errors.TooLarge is = absurd (false≢true is)
+equal-draw_error (draw_errors.NotTiled p) (draw_errors.Memory e) is = absurd (false≢true is)
+equal-draw_error (draw_errors.NotTiled p) draw_errors.Write is = absurd (false≢true is)
+equal-draw_error (draw_errors.NoRoom p) (draw_errors.OutOfTable q) is = absurd (false≢true is)
+equal-draw_error (draw_errors.NoRoom p) (draw_errors.NotTiled q) is = absurd (false≢true is)
+equal-draw_error (draw_errors.NoRoom p) (draw_errors.NoRoom q) is = ap (λ r. draw_errors.NoRoom r) ((same-position p q).0 is)
+equal-draw_error (draw_errors.NoRoom p) draw_errors.TooLarge is = absurd (false≢true is)
+equal-draw_error (draw_errors.NoRoom p) (draw_errors.Memory e) is = absurd (false≢true is)
+equal-draw_error (draw_errors.NoRoom p) draw_errors.Write is = absurd (false≢true is)
+equal-draw_error draw_errors.TooLarge (draw_errors.OutOfTable q) is = absurd (false≢true is)
+equal-draw_error draw_errors.TooLarge (draw_errors.NotTiled q) is = absurd (false≢true is)
+equal-draw_error draw_errors.TooLarge (draw_errors.NoRoom q) is = absurd (false≢true is)
+equal-draw_error draw_errors.TooLarge draw_errors.TooLarge is = refl
+equal-draw_error draw_errors.TooLarge (draw_errors.Memory e) is = absurd (false≢true is)
+equal-draw_error draw_errors.TooLarge draw_errors.Write is = absurd (false≢true is)
+equal-draw_error (draw_errors.Memory d) (draw_errors.OutOfTable q) is = absurd (false≢true is)
+equal-draw_error (draw_errors.Memory d) (draw_errors.NotTiled q) is = absurd (false≢true is)
+equal-draw_error (draw_errors.Memory d) (draw_errors.NoRoom q) is = absurd (false≢true is)
+equal-draw_error (draw_errors.Memory d) draw_errors.TooLarge is = absurd (false≢true is)
+equal-draw_error (draw_errors.Memory d) (draw_errors.Memory e) is = refl
+equal-draw_error (draw_errors.Memory d) draw_errors.Write is = absurd (false≢true is)
+equal-draw_error draw_errors.Write (draw_errors.OutOfTable q) is = absurd (false≢true is)
+equal-draw_error draw_errors.Write (draw_errors.NotTiled q) is = absurd (false≢true is)
+equal-draw_error draw_errors.Write (draw_errors.NoRoom q) is = absurd (false≢true is)
+equal-draw_error draw_errors.Write draw_errors.TooLarge is = absurd (false≢true is)
+equal-draw_error draw_errors.Write (draw_errors.Memory e) is = absurd (false≢true is)
+equal-draw_error draw_errors.Write draw_errors.Write is = refl
+
+pub same-draw_error : (x y : DrawError) → (draw_error.ghosts.eq x y ≡ true) ↔ (x ≡ y)
+same-draw_error x y = (equal-draw_error x y, λ e. subst (λ z. draw_error.ghosts.eq x z ≡ true) e (itself-draw_error x))

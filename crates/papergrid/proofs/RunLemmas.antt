@@ -2,10 +2,12 @@
 use Rattle.std.proofs.Common.{◌≡◌, ◌≢◌, ◌∙◌, ℕ, Bool, List, Option, Result, Vec, Global, Ok, Err, ap, inl, inr, refl, subst, sym}
 use Rattle.std.specs.Prelude.{◌↔◌, ⊤, IfErr, IfOk, IsErrOf, OnOk, take}
 use Rattle.std.specs.Io.KnownBytes.{Appends}
+use Rattle.papergrid_config.specs.declared.setting.Setting.{Setting}
 use Rattle.papergrid_config.specs.declared.spanned.SpannedConfig.{SpannedConfig}
 use Rattle.papergrid_tracks.specs.declared.sizing.Sizing.{Sizing}
 use Rattle.papergrid_tracks.specs.declared.sizing.Sizing.TheVariants.{ByShares}
 use Rattle.papergrid_draw.specs.Drawings.{Drawing}
+use Rattle.papergrid_draw.specs.Faults.{IsDrawable}
 use Rattle.papergrid_draw.specs.declared.error.DrawError.{DrawError}
 use Rattle.papergrid_draw.specs.declared.error.DrawError.TheVariants as draw_errors
 use Rattle.papergrid_draw.specs.Lined.{lined}
@@ -14,11 +16,11 @@ use Rattle.papergrid_script.specs.Outputs.{end_by, output_by}
 use Rattle.papergrid_script.specs.Runs.{HasRun, IsRunFault}
 use Rattle.papergrid_script.specs.Scripts.{Table, table_of}
 use Rattle.papergrid_script.specs.declared.answer.RunEnd.{RunEnd}
-use Rattle.papergrid_script.specs.declared.answer.RunEnd.TheVariants.{Done, Refused}
+use Rattle.papergrid_script.specs.declared.answer.RunEnd.TheVariants.{BadScript, Done, Refused}
 use Rattle.papergrid_script.specs.declared.reading.RunFault.{RunFault}
 use Rattle.papergrid_script.specs.declared.reading.RunFault.TheVariants as run_faults
 use Rattle.papergrid.specs.Pictures.{IsPictureOf, IsPictureRun, IsTablePicture, refusal_line}
-use Rattle.papergrid_draw.specs.Pictures.{IsDrawingWith, IsFaultWith}
+use Rattle.papergrid_draw.specs.Pictures.{IsDrawingBy, IsDrawingWith, IsFaultWith, IsPictureFault}
 use Rattle.papergrid_script.specs.Writing.{IsBrokenOff, WritesOutput}
 use Rattle.papergrid_script.proofs.RunLemmas.{runs-also}
 use Rattle.papergrid_text.specs.Transfer.{IsTaken}
@@ -31,13 +33,13 @@ Any end = ⊤
 
 -- a picture broke off, or was not begun
 pub picture-broken : {W E : Type 0} (contents : W → Option (List ℕ)) (has_failed has_stalled : W → Bool) (IsSo : Drawing → Type 0) (IsWhy : DrawError → Type 0) (IsOutput : E → List ℕ → Type 0)
-    (end : E) → ((d : Drawing) → IsSo d → IsOutput end (lined d)) → (old new : W) (e : DrawError) (fault : RunFault) → fault ≢ run_faults.Read → (fault ≡ run_faults.Write) ↔ (e ≡ draw_errors.Write) →
+    (end : E) → ((d : Drawing) → IsSo d → IsDrawable d → IsOutput end (lined d)) → (old new : W) (e : DrawError) (fault : RunFault) → fault ≢ run_faults.Read → (fault ≡ run_faults.Write) ↔ (e ≡ draw_errors.Write) →
     IsUndrawn contents has_failed has_stalled IsSo IsWhy lined old new e → IsBrokenOff contents has_failed has_stalled (λ _. ⊤) IsOutput old new fault
 picture-broken contents has_failed has_stalled IsSo IsWhy IsOutput end is old new e fault not_read follows so = record {
   not_read = not_read;
   beginning = elim (undrawn-beginning contents has_failed has_stalled IsSo IsWhy lined old new e so) [
     | inl same ↦ inl same
-    | inr begun ↦ inr (end, tt, (lined begun.0, is begun.0 begun.1, begun.2))
+    | inr begun ↦ inr (end, tt, (lined begun.0, is begun.0 begun.1 begun.2, begun.3))
   ];
   write = λ at. undrawn-write contents has_failed has_stalled IsSo IsWhy lined old new e so (follows.0 at);
   steady = elim (undrawn-steady contents has_failed has_stalled IsSo IsWhy lined old new e so) [
@@ -58,15 +60,15 @@ module _ {W : Type 0} (contents : W → Option (List ℕ)) (has_failed has_stall
     IsSoUndrawn old new e = IsUndrawn contents has_failed has_stalled IsSo IsWhy lined old new e
 
     -- the picture was written
-    pub run-drawn : (old new : W) → ((d : Drawing) × IsSo d × IsTaken contents has_failed has_stalled old (lined d) new) →
+    pub run-drawn : (old new : W) → ((d : Drawing) × IsSo d × IsDrawable d × IsTaken contents has_failed has_stalled old (lined d) new) →
         WritesOutput contents has_failed has_stalled Any (IsTablePicture sizing table) old new (Ok Done)
-    run-drawn old new so = (lined so.0, (so.0, (config, told, so.1), refl), record { taken = so.2; silent = λ never. absurd (never tt) })
+    run-drawn old new so = (lined so.0, (so.0, (config, told, so.1), so.2, refl), record { taken = so.3; silent = λ never. absurd (never tt) })
 
     -- it broke off
     pub run-broken : (old new : W) (e : DrawError) (fault : RunFault) → fault ≢ run_faults.Read → (fault ≡ run_faults.Write) ↔ (e ≡ draw_errors.Write) → IsSoUndrawn old new e →
         IsBrokenOff contents has_failed has_stalled Any (IsTablePicture sizing table) old new fault
     run-broken old new e fault not_read follows so =
-        picture-broken contents has_failed has_stalled IsSo IsWhy (IsTablePicture sizing table) Done (λ d is. (d, (config, told, is), refl)) old new e fault not_read follows so
+        picture-broken contents has_failed has_stalled IsSo IsWhy (IsTablePicture sizing table) Done (λ d is drawable. (d, (config, told, is), drawable, refl)) old new e fault not_read follows so
 
     -- it was refused, and the line that says so was written
     pub run-refused : (old between new : W) (e : DrawError) (text : List ℕ) (result : Result RunEnd RunFault) → IsRefusal e → IsSoUndrawn old between e → text ≡ refusal_line e →
@@ -80,6 +82,34 @@ pub picture-run-of : (sizing : Sizing) (input : List ℕ) (told : Result Table �
     IsPictureOf sizing told end output → IsPictureRun sizing input end output
 unfolding IsPictureRun
 picture-run-of sizing input told is end output so = subst (λ t. IsPictureOf sizing t end output) (sym is) so
+
+-- the table of a script has one output, where it has one picture or one reason why it has none
+module _ (sizing : Sizing) where
+  one-table-output : (table : Table) → ((d e : Drawing) → IsDrawingBy table.columns table.rows sizing table.settings d → IsDrawingBy table.columns table.rows sizing table.settings e → lined d ≡ lined e) →
+      ((d : Drawing) (e : DrawError) → IsDrawingBy table.columns table.rows sizing table.settings d → IsDrawable d → IsRefusal e → IsPictureFault table.columns table.rows sizing table.settings e → ⊥) →
+      ((e f : DrawError) → IsRefusal e → IsRefusal f → IsPictureFault table.columns table.rows sizing table.settings e → IsPictureFault table.columns table.rows sizing table.settings f → e ≡ f) →
+      (end other : RunEnd) (output bytes : List ℕ) → IsTablePicture sizing table end output → IsTablePicture sizing table other bytes → (end ≡ other) × (output ≡ bytes)
+  one-table-output table pictures drawn refused Done Done output bytes a b = (refl, a.3 ∙ pictures a.0 b.0 a.1 b.1 ∙ sym b.3)
+  one-table-output table pictures drawn refused Done Refused output bytes a b = absurd (drawn a.0 b.0 a.1 a.2 b.1 b.2)
+  one-table-output table pictures drawn refused Refused Done output bytes a b = absurd (drawn b.0 a.0 b.1 b.2 a.1 a.2)
+  one-table-output table pictures drawn refused Refused Refused output bytes a b = (refl, a.3 ∙ ap refusal_line (refused a.0 b.0 a.1 b.1 a.2 b.2) ∙ sym b.3)
+  one-table-output table pictures drawn refused BadScript other output bytes a b = absurd a
+  one-table-output table pictures drawn refused end BadScript output bytes a b = absurd b
+
+  one-output-of : (told : Result Table ℕ) → ((columns : ℕ) (texts : List (List (List ℕ))) (settings : List Setting) (d e : Drawing) → IsDrawingBy columns texts sizing settings d → IsDrawingBy columns texts sizing settings e → lined d ≡ lined e) →
+      ((columns : ℕ) (texts : List (List (List ℕ))) (settings : List Setting) (d : Drawing) (e : DrawError) → IsDrawingBy columns texts sizing settings d → IsDrawable d → IsRefusal e → IsPictureFault columns texts sizing settings e → ⊥) →
+      ((columns : ℕ) (texts : List (List (List ℕ))) (settings : List Setting) (e f : DrawError) → IsRefusal e → IsRefusal f → IsPictureFault columns texts sizing settings e → IsPictureFault columns texts sizing settings f → e ≡ f) →
+      (end other : RunEnd) (output bytes : List ℕ) → IsPictureOf sizing told end output → IsPictureOf sizing told other bytes → (end ≡ other) × (output ≡ bytes)
+  one-output-of (Ok table) pictures drawn refused end other output bytes a b =
+      one-table-output table (pictures table.columns table.rows table.settings) (drawn table.columns table.rows table.settings) (refused table.columns table.rows table.settings) end other output bytes a b
+  one-output-of (Err number) pictures drawn refused end other output bytes a b = (a.0 ∙ sym b.0, a.1 ∙ sym b.1)
+
+  pub one-output : ((columns : ℕ) (texts : List (List (List ℕ))) (settings : List Setting) (d e : Drawing) → IsDrawingBy columns texts sizing settings d → IsDrawingBy columns texts sizing settings e → lined d ≡ lined e) →
+      ((columns : ℕ) (texts : List (List (List ℕ))) (settings : List Setting) (d : Drawing) (e : DrawError) → IsDrawingBy columns texts sizing settings d → IsDrawable d → IsRefusal e → IsPictureFault columns texts sizing settings e → ⊥) →
+      ((columns : ℕ) (texts : List (List (List ℕ))) (settings : List Setting) (e f : DrawError) → IsRefusal e → IsRefusal f → IsPictureFault columns texts sizing settings e → IsPictureFault columns texts sizing settings f → e ≡ f) →
+      (input : List ℕ) (end other : RunEnd) (output bytes : List ℕ) → IsPictureRun sizing input end output → IsPictureRun sizing input other bytes → (end ≡ other) × (output ≡ bytes)
+  unfolding IsPictureRun
+  one-output pictures drawn refused input = one-output-of (table_of input) pictures drawn refused
 
 -- a reader and a writer, by what they tell, and the input that a run kept in place of another one
 module _ {R W : Type 0} (remaining : R → Option (List ℕ)) (read_failed : R → Bool) (contents : W → Option (List ℕ)) (has_failed has_stalled : W → Bool)
@@ -111,7 +141,7 @@ module _ {R W : Type 0} (remaining : R → Option (List ℕ)) (read_failed : R �
   -- and of one that broke off
   broke-unseen : (fault : RunFault) → Broke before fault → Broke input fault
   broke-unseen run_faults.Read is = record { read = is.read; nothing = is.nothing; kept = refl }
-  broke-unseen run_faults.Memory is = record { reader_works = is.reader_works; writer_works = is.writer_works; writer_moves = is.writer_moves; kept = inl refl }
+  broke-unseen run_faults.Memory is = record { reader_works = is.reader_works; writer_works = is.writer_works; writer_moves = is.writer_moves; kept = elim is.kept [ inl same ↦ inl (refl, same.1) | inr whole ↦ inr whole ] }
   broke-unseen run_faults.Write is = record { reader_works = is.reader_works; write = is.write; kept = is.kept }
 
   pub fault-unseen : (result : Result RunEnd RunFault) → IfErr result (Broke before) →

@@ -2,6 +2,7 @@
 use Rattle.std.specs.Prelude.{◌≡◌, ℕ, List, [], ◌∷◌, ◌++◌, codes, decimal, Result, Ok, Err}
 use Rattle.papergrid_tracks.specs.declared.sizing.Sizing.{Sizing}
 use Rattle.papergrid_draw.specs.Drawings.{Drawing}
+use Rattle.papergrid_draw.specs.Faults.{IsDrawable}
 use Rattle.papergrid_draw.specs.declared.error.DrawError.{DrawError}
 use Rattle.papergrid_draw.specs.declared.error.DrawError.TheVariants.{Memory, NoRoom, NotTiled, OutOfTable, TooLarge, Write}
 use Rattle.papergrid_draw.specs.Lined.{lined}
@@ -21,11 +22,11 @@ refusal_line TooLarge = codes "refused: too large" ++ newline ∷ []
 refusal_line (Memory e) = []
 refusal_line Write = []
 
--- how a run ends that draws the table of a script, and what it writes. It writes the lines of the table's picture,
--- or why the table has none
+-- how a run ends that draws the table of a script, and what it writes. It writes the lines of the table's picture
+-- where it can be drawn, or why the table has none
 abbrev pub IsTablePicture : Sizing → Table → RunEnd → List ℕ → Type 0
 IsTablePicture sizing table Done output =
-    (d : Drawing) × IsDrawingBy table.columns table.rows sizing table.settings d × (output ≡ lined d)
+    (d : Drawing) × IsDrawingBy table.columns table.rows sizing table.settings d × IsDrawable d × (output ≡ lined d)
 IsTablePicture sizing table Refused output =
     (e : DrawError) × IsRefusal e × IsPictureFault table.columns table.rows sizing table.settings e × (output ≡ refusal_line e)
 IsTablePicture sizing table BadScript output = ⊥

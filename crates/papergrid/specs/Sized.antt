@@ -42,6 +42,6 @@ abbrev pub drawing_held : {T : Type 0} → (T → List (List ℕ × ℕ)) → Sp
 drawing_held lines config widths heights records color =
     drawing_of_rows lines (parts_of config widths heights (shape_told records)) (cells_held records) color
 
--- why a table with sizes of one's own is not drawn: a total without margins is too large, or as any table
+-- why a table with sizes of one's own is not drawn: a total without margins is too large, else as any table
 abbrev pub IsGridFault : Drawing → DrawError → Type 0
-IsGridFault d e = ((e ≡ TooLarge) × IsTotalTooLarge (layout_of d)) ⊎ IsDrawFault d e
+IsGridFault d e = ((e ≡ TooLarge) × IsTotalTooLarge (layout_of d)) ⊎ ((IsTotalTooLarge (layout_of d) → ⊥) × IsDrawFault d e)

@@ -9,12 +9,16 @@ ghost use Rattle.papergrid_layout.specs.Tables.{TableParts};
 ghost use Rattle.papergrid_tracks.specs.declared.sizing.Sizing.{Sizing};
 ghost use Rattle.papergrid_draw.specs.Cells.{text_lines};
 ghost use Rattle.papergrid_draw.specs.Drawings.{Drawing};
+ghost use Rattle.papergrid_draw.specs.declared.error.DrawError.{DrawError};
 ghost use Rattle.papergrid_script.specs.declared.answer.RunEnd.{RunEnd};
 ghost use Rattle.papergrid_script.specs.declared.explained.Reason.{Reason};
 ghost use Rattle.papergrid_script.specs.declared.reading.RunFault.{RunFault};
 ghost use Rattle.papergrid.specs.Compact.{IsCompactDrawing, compact_height, first_text};
+ghost use Rattle.papergrid.specs.Pictures.{IsPictureRun};
 ghost use Rattle.papergrid.specs.Sized.{drawing_of_rows, parts_of};
 
+use papergrid_draw::DrawError;
+pub use papergrid_draw::laws::{one_answer, one_picture};
 use papergrid_layout::Sizing;
 use papergrid_script::answer::RunEnd;
 use papergrid_script::explained::Reason;
@@ -34,6 +38,7 @@ pub fn equal_clones()
     ensures end { (x y : RunEnd) → ⟦<RunEnd as Clone>⟧.is_clone x y → y ≡ x }
     ensures fault { (x y : RunFault) → ⟦<RunFault as Clone>⟧.is_clone x y → y ≡ x }
     ensures failed { (x y : Failed) → ⟦<Failed as Clone>⟧.is_clone x y → y ≡ x }
+    ensures draw_error { (x y : DrawError) → ⟦<DrawError as Clone>⟧.is_clone x y → y ≡ x }
 {}
 
 /// Values are equal exactly where they are the same.
@@ -43,7 +48,18 @@ pub fn equal_where_same()
     ensures end { (x y : RunEnd) → (⟦<RunEnd as PartialEq>⟧.eq x y ≡ true) ↔ (x ≡ y) }
     ensures fault { (x y : RunFault) → (⟦<RunFault as PartialEq>⟧.eq x y ≡ true) ↔ (x ≡ y) }
     ensures failed { (x y : Failed) → (⟦<Failed as PartialEq>⟧.eq x y ≡ true) ↔ (x ≡ y) }
+    ensures draw_error { (x y : DrawError) → (⟦<DrawError as PartialEq>⟧.eq x y ≡ true)
+        ↔ (x ≡ y) }
 {}
+
+/// The bytes of a script have one output. A run that draws their table ends in one way, and writes one text.
+pub fn one_output()
+    ensures { (sizing : Sizing) (input : List ℕ) (end other : RunEnd) (output bytes : List ℕ) →
+        IsPictureRun sizing input end output → IsPictureRun sizing input other bytes →
+        (end ≡ other) × (output ≡ bytes) }
+{
+    one_picture();
+}
 
 /// The printers draw one picture. That of measured texts, by `PeekableGrid`, is that of the texts, by `IterGrid`. That of
 /// a compact table, by `CompactGrid`, is that of the first lines of its texts, by `IterGrid` with the configuration that

@@ -22,6 +22,7 @@ use Rattle.papergrid_tracks.specs.declared.error.LayoutError.{LayoutError}
 use Rattle.papergrid_tracks.specs.declared.error.LayoutError.TheVariants as layout_errors
 use Rattle.papergrid_tracks.specs.declared.solution.Solved.{Solved}
 use Rattle.papergrid_draw.specs.Drawings.{Drawing}
+use Rattle.papergrid_draw.specs.Faults.{IsDrawable}
 use Rattle.papergrid_draw.specs.Lined.{lined}
 use Rattle.papergrid_walk.specs.Measures.{text_measure}
 use Rattle.papergrid_config.specs.Laws.{IsConfiguredBy}
@@ -90,9 +91,9 @@ module _ (config : SpannedConfig) (rows : List (List (List ℕ))) (sizing : Sizi
 
     -- the same of an answer
     pub drawn-told : (result : Result (Vec ℕ Global) BuilderError) →
-        IfOk result (λ picture. (d : Drawing) × IsDrawingWith (longest rows) rows sizing config d × (picture.items ≡ lined d)) →
+        IfOk result (λ picture. (d : Drawing) × IsDrawingWith (longest rows) rows sizing config d × IsDrawable d × (picture.items ≡ lined d)) →
         IfOk result (λ picture. (d : Drawing) × IsDrawingOf settings rows sizing d × (picture.items ≡ lined d))
-    drawn-told (Ok picture) drawn = (drawn.0, (config, told, drawn.1), drawn.2)
+    drawn-told (Ok picture) drawn = (drawn.0, ((config, told, drawn.1), drawn.2), drawn.3)
     drawn-told (Err e) drawn = tt
 
     pub undrawn-told : (result : Result (Vec ℕ Global) BuilderError) → IfErr result (IsPictureRefused config rows sizing) → IfErr result (IsNotDrawn settings rows sizing)

@@ -22,9 +22,9 @@ IsNotTold setting OutOfRange = is_in_range setting ≡ false
 IsNotTold setting Memory = is_in_range setting ≡ true
 IsNotTold setting e = ⊥
 
--- the setting that a JSON text tells, as one more
+-- the setting that a JSON text in UTF-8 tells, as one more
 abbrev pub GainsSettingIn : List ℕ → BuilderState → BuilderState → Type 0
-GainsSettingIn text old new = (setting : Setting) × (setting_in text ≡ Some setting) × GainsSetting old new setting
+GainsSettingIn text old new = IsUtf8 text × ((setting : Setting) × (setting_in text ≡ Some setting) × GainsSetting old new setting)
 
 -- why a JSON text is refused: it tells no setting, or an allocation failed
 abbrev pub IsNoSetting : List ℕ → BuilderError → Type 0
@@ -41,6 +41,10 @@ abbrev pub IsNoCell : List ℕ → BuilderError → Type 0
 IsNoCell text NotText = ¬ IsUtf8 text
 IsNoCell text Memory = IsUtf8 text
 IsNoCell text e = ⊥
+
+-- why the end of a row is not told: an allocation failed, for a row without cells
+abbrev pub IsNotEnded : BuilderState → BuilderError → Type 0
+IsNotEnded old e = IsOutOfMemory e × (old.goes_on ≡ false)
 
 -- the bytes that end cells and rows are ASCII
 abbrev pub AreAscii : ℕ → ℕ → Type 0

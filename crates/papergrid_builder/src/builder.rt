@@ -66,7 +66,7 @@ impl Builder {
     ghost use Rattle.papergrid_draw.specs.Drawings.{Drawing};
     ghost use Rattle.papergrid_draw.specs.Lined.{lined};
     ghost use Rattle.papergrid_tracks.specs.declared.sizing.Sizing.{Sizing};
-    ghost use Rattle.papergrid_builder.specs.Calls.{AreNoRows, GainsCell, GainsRows, GainsSetting, GainsSettingIn, IsNoCell, IsNoSetting, IsNotTold, IsOutOfMemory};
+    ghost use Rattle.papergrid_builder.specs.Calls.{AreNoRows, GainsCell, GainsRows, GainsSetting, GainsSettingIn, IsNoCell, IsNoSetting, IsNotEnded, IsNotTold};
     ghost use Rattle.papergrid_builder.specs.Layouts.{IsCellAnswer, IsFoundTable, IsNoFoundTable, IsPlaceAnswer, certificate_along, sizes_along, totals_of};
     ghost use Rattle.papergrid_builder.specs.Pictures.{IsDrawingOf, IsNotDrawn};
     ghost use Rattle.papergrid_builder.specs.BuilderStates.{FoundTable, blank_table, with_row_end};
@@ -147,10 +147,10 @@ impl Builder {
     ///
     /// # Errors
     ///
-    /// `Memory`.
+    /// `Memory`, and only for a row without cells.
     pub fn end_row(&mut self) -> Result<(), BuilderError>
         ensures ok { OnOk result (self.new ≡ with_row_end self.old) }
-        ensures refused { IfErr result IsOutOfMemory }
+        ensures refused { IfErr result (IsNotEnded self.old) }
         ensures err { OnErr result (self.new ≡ self.old) }
     {
         if self.goes_on {

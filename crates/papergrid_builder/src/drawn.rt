@@ -3,6 +3,7 @@
 ghost use Rattle.std.specs.Prelude.{◌≡◌, ◌≢◌, IfErr, IfOk, length};
 ghost use Rattle.papergrid_values.specs.declared.position.Position.{Position};
 ghost use Rattle.papergrid_draw.specs.Drawings.{Drawing};
+ghost use Rattle.papergrid_draw.specs.Faults.{IsDrawable};
 ghost use Rattle.papergrid_draw.specs.Lined.{lined};
 ghost use Rattle.papergrid_draw.specs.Pictures.{IsDrawingWith};
 ghost use Rattle.papergrid_draw.specs.declared.error.DrawError.TheVariants.{NoRoom};
@@ -56,7 +57,7 @@ fn drawn_by(
 ) -> Result<Vec<u8>, BuilderError>
     ensures ok { IfOk result (λ picture. (d : Drawing)
         × IsDrawingWith (longest (rows_lent rows.now)) (rows_lent rows.now) sizing config.now d
-        × (picture.items ≡ lined d)) }
+        × IsDrawable d × (picture.items ≡ lined d)) }
     ensures err { IfErr result (IsPictureRefused config.now (rows_lent rows.now) sizing) }
 {
     let columns = longest_of(rows);

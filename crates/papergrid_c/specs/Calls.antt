@@ -1,7 +1,7 @@
 -- What calls do to the table of a handle.
 use Rattle.std.specs.Prelude.{◌≡◌, ◌⊎◌, ℕ, ℤ, List, Option, None, Some}
 use Rattle.papergrid_config.specs.declared.setting.Setting.{Setting}
-use Rattle.papergrid_builder.specs.Calls.{AreNoRows, GainsCell, GainsRows, GainsSetting, GainsSettingIn, IsNoCell, IsNoSetting, IsNotTold, IsOutOfMemory}
+use Rattle.papergrid_builder.specs.Calls.{AreNoRows, GainsCell, GainsRows, GainsSetting, GainsSettingIn, IsNoCell, IsNoSetting, IsNotEnded, IsNotTold}
 use Rattle.papergrid_builder.specs.BuilderStates.{BuilderState, blank_table, with_row_end}
 use Rattle.papergrid_builder.specs.declared.error.BuilderError.{BuilderError}
 use Rattle.papergrid_builder.specs.declared.error.BuilderError.TheVariants.{Memory}
@@ -28,7 +28,7 @@ PushesCell text old = Ends (GainsCell text old) (IsNoCell text) old
 
 -- the next cell begins a new row
 abbrev pub EndsRow : BuilderState → BuilderState → ℤ → Type 0
-EndsRow old = Ends (λ new. new ≡ with_row_end old) IsOutOfMemory old
+EndsRow old = Ends (λ new. new ≡ with_row_end old) (IsNotEnded old) old
 
 -- the rows that a text is cut into as more rows
 abbrev pub PushesRows : ℕ → ℕ → List ℕ → BuilderState → BuilderState → ℤ → Type 0

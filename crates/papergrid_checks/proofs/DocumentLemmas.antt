@@ -5,6 +5,7 @@ use Rattle.std.specs.Io.KnownBytes.{Appends}
 use Rattle.std.specs.Result.{is_ok}
 use Rattle.std.proofs.KnownBytes.{Appends-nil}
 use Rattle.papergrid_draw.specs.Drawings.{Drawing}
+use Rattle.papergrid_draw.specs.Faults.{IsDrawable}
 use Rattle.papergrid_text.specs.Transfer.{IsTaken}
 use Rattle.papergrid_draw.specs.Sinks.{IsUndrawn, WritesPicture}
 use Rattle.papergrid_draw.proofs.SinkLemmas.{undrawn-beginning}
@@ -18,24 +19,24 @@ use Rattle.papergrid_checks.specs.Documents.{IsOfDocument}
 use Rattle.papergrid_checks.specs.Written.{AppendsBeginning}
 
 module _ {W : Type 0} (contents : W → Option (List ℕ)) (has_failed has_stalled : W → Bool) (old new : W) (text : List ℕ) (document : Document) (read : IsDocumentRead text (Ok document)) where
-  of-document : (d : Drawing) → IsDocumentDrawing document ByShares d → IsOfDocument text (lined d)
-  of-document d is = (document, read, (d, is, refl))
+  of-document : (d : Drawing) → IsDocumentDrawing document ByShares d → IsDrawable d → IsOfDocument text (lined d)
+  of-document d is drawable = (document, read, (d, is, drawable, refl))
 
   -- a drawing was written
   abbrev pub IsPictured : Type 0
-  IsPictured = (d : Drawing) × IsDocumentDrawing document ByShares d × IsTaken contents has_failed has_stalled old (lined d) new
+  IsPictured = (d : Drawing) × IsDocumentDrawing document ByShares d × IsDrawable d × IsTaken contents has_failed has_stalled old (lined d) new
 
   -- it was not
   abbrev pub IsNoPicture : DrawError → Type 0
   IsNoPicture = IsUndrawn contents has_failed has_stalled (IsDocumentDrawing document ByShares) (IsDocumentFault document ByShares) lined old new
 
   pictured : IsPictured → (output : List ℕ) × IsOfDocument text output × Appends (contents old) (contents new) output
-  pictured is = (lined is.0, of-document is.0 is.1, is.2.bytes_are)
+  pictured is = (lined is.0, of-document is.0 is.1 is.2, is.3.bytes_are)
 
   begun : (e : DrawError) → IsNoPicture e → AppendsBeginning (IsOfDocument text) (contents old) (contents new)
   begun e is = elim (undrawn-beginning contents has_failed has_stalled (IsDocumentDrawing document ByShares) (IsDocumentFault document ByShares) lined old new e is) [
     | inl kept ↦ inl (subst (λ (w : W). Appends (contents old) (contents w) []) (sym kept) (Appends-nil (contents old)))
-    | inr so ↦ inr (lined so.0, of-document so.0 so.1, so.2)
+    | inr so ↦ inr (lined so.0, of-document so.0 so.1 so.2, so.3)
   ]
 
   -- what the clause of a drawn document says

@@ -1,6 +1,9 @@
 //! Tables that are drawn.
 
-ghost use Rattle.std.specs.Prelude.{◌≢◌, IfErr};
+ghost use Rattle.std.specs.Prelude.{◌≡◌, ◌≢◌, IfErr, IfOk, string_bytes};
+ghost use Rattle.papergrid_draw.specs.Drawings.{Drawing};
+ghost use Rattle.papergrid_draw.specs.Faults.{IsDrawable};
+ghost use Rattle.papergrid_draw.specs.Margins.{printed};
 ghost use Rattle.papergrid_draw.specs.declared.error.DrawError.TheVariants.{Write};
 
 use anyhow::Result;
@@ -33,7 +36,9 @@ pub fn picture(
     rows: &[Vec<&str>],
     columns: usize,
 ) -> std::result::Result<String, DrawError>
-    ensures { IfErr result (λ e. e ≢ Write) }
+    ensures picture { IfOk result (λ text. (d : Drawing) × (d.config ≡ config.now)
+        × IsDrawable d × (string_bytes text ≡ printed d)) }
+    ensures works { IfErr result (λ e. e ≢ Write) }
 {
     let records = IterRecords::new(rows, columns, Some(rows.len()));
     let table = Table::new(alloc, config, records, Sizing::Least)?;

@@ -6,6 +6,8 @@ pub mod CutTextLemmas
 pub mod DrawLemmas
 pub mod EscapeLemmas
 pub mod JudgingLemmas
+pub mod OneRunLemmas
+pub mod OneTextLemmas
 pub mod PartLemmas
 pub mod QuoteLemmas
 pub mod ReadLemmas

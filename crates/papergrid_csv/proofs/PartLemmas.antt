@@ -13,7 +13,7 @@ use Rattle.papergrid_values.specs.declared.position.Position.{Position}
 use Rattle.papergrid_maps.specs.declared.entity_map.MapCall.TheVariants.{Insert}
 use Rattle.papergrid_config.specs.Effective as effective
 use Rattle.papergrid_config.specs.Made.{characters_of}
-use Rattle.papergrid_config.specs.Parts.{character_calls, padding_calls, span_calls}
+use Rattle.papergrid_config.specs.Parts.{character_calls, margins, padding_calls, span_calls}
 use Rattle.papergrid_config.specs.declared.setting.Setting.{Setting}
 use Rattle.papergrid_config.specs.declared.setting.Setting.TheVariants.{InsertHorizontalLine, SetAlignmentHorizontal, SetAlignmentVertical, SetBorder, SetBorders, SetPadding}
 use Rattle.papergrid_config.specs.declared.spanned.SpannedConfig.{SpannedConfig}
@@ -74,6 +74,15 @@ module _ (request : Request) (columns : ℕ) (rows : List (List (List ℕ))) whe
       let spans : All (λ s. span_calls s ≡ []) (flat_map span_settings request.spans.items) =
       subst (λ l. All (λ s. span_calls s ≡ []) (flat_map span_settings l)) (sym empty) (All-nil (λ s. span_calls s ≡ [])) in
       parts-are span_calls request columns rows (others-none span_calls (λ _ _. refl) (λ _ _. refl) spans) ∙ rw head refl
+
+  -- no margins are
+  pub no-margins : (fitted : List Setting) → flat_map margins fitted ≡ [] → flat_map margins (settings_of request columns rows ++ fitted) ≡ []
+  no-margins fitted none =
+      let head = head-none margins (λ _ _. refl) request.head in
+      flat_map-append margins (settings_of request columns rows) fitted
+      ∙ ap (λ l. flat_map margins (settings_of request columns rows) ++ l) none
+      ∙ append-nil (flat_map margins (settings_of request columns rows))
+      ∙ parts-are margins request columns rows (others-none margins (λ _ _. refl) (λ _ _. refl) (spans-all (λ s. margins s ≡ []) (λ _ _. refl) (λ _ _. refl) request.spans.items)) ∙ rw head refl
 
   -- one padding is
   paddings-are : flat_map padding_calls (settings_of request columns rows) ≡ Insert Global request.padding ∷ []

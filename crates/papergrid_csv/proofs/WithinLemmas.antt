@@ -138,7 +138,7 @@ module _ {W : Type 0} (contents : W → Option (List ℕ)) (has_failed has_stall
     same-writer found wide = tried.run.2.silent (λ drawn. let none : ⊥ = cc in none)
 
     -- so the next one is the greatest that may do
-    next-greatest : 0 < left → (found : ℕ) → end ≡ TooWide found → IsGreatestCut asked width input (Some left)
+    pub next-greatest : 0 < left → (found : ℕ) → end ≡ TooWide found → IsGreatestCut asked width input (Some left)
     next-greatest some found wide = elim tried.counted [
       | inl first ↦ (
         subst (IsWiderWith asked width input) first.0 (wider found wide),

@@ -3,7 +3,7 @@
 ghost use Rattle.std.specs.Prelude.{◌≡◌, ◌↔◌, ℕ, IsTrue};
 ghost use Rattle.papergrid_csv.specs.Pictures.{WritesCsv};
 ghost use Rattle.papergrid_csv.specs.Rows.{held_texts};
-ghost use Rattle.papergrid_csv.specs.Within.{IsRunWithin, cut_request};
+ghost use Rattle.papergrid_csv.specs.Within.{IsGreatestCut, IsRunWithin, cut_request};
 ghost use Rattle.papergrid_csv.specs.ForProofs.Within.{IsFirstCut};
 ghost use Rattle.papergrid_csv.specs.declared.run.CsvEnd.TheVariants.{TooWide};
 
@@ -37,6 +37,8 @@ pub fn draw_csv_within<W: Sink>(
     ensures runs { WritesCsv W.contents W.has_failed W.has_stalled
         (IsRunWithin request.old width input.now request.new.cut)
         writer.old writer.new result }
+    // No greater cut will do than the one that the request has now, however the run ended.
+    ensures greatest { IsGreatestCut request.old width input.now request.new.cut }
     // The request has the cut that was found, and is else as it was but for the width.
     ensures request { request.new ≡ cut_request request.old width request.new.cut }
 {

@@ -16,9 +16,9 @@ use Rattle.papergrid_config.specs.declared.setting.Setting.{Setting}
 use Rattle.papergrid_config.specs.declared.spanned.SpannedConfig.{SpannedConfig}
 use Rattle.papergrid_config.proofs.SameLemmas.{exact_option}
 use Rattle.papergrid_draw.specs.Characters.{crossing_character}
-use Rattle.papergrid_draw.specs.Drawings.{Drawing}
+use Rattle.papergrid_draw.specs.Drawings.{Drawing, layout_of}
 use Rattle.papergrid_draw.specs.Drawn.{draws_horizontal, draws_vertical, owner_at}
-use Rattle.papergrid_draw.specs.Tiles.{owner}
+use Rattle.papergrid_draw.specs.Tiles.{IsTiled, owner}
 use Rattle.papergrid_draw.proofs.TilingLemmas.{none-first, not-before}
 use Rattle.papergrid_draw.specs.Crossings.{BecomesBy, FitCrossings, IsSeenCrossing, SetsCrossing, bare_drawing, junction, junction_at}
 use Rattle.papergrid_draw.specs.ForProofs.Crossings.{AreFittedBefore, FitsAlready, HasMark, IsMark, mark_at, marked_character, setting_of}
@@ -270,8 +270,11 @@ module _ (junctions : Junctions) (settings : List Setting) where
     by-marks : (new : SpannedConfig) → BecomesBy config new settings → BecomesBy config new (map setting_of fitted.marks)
     by-marks new becomes = subst (BecomesBy config new) fitted.are becomes
 
-    pub fit-all : ((shape.0 ≡ 0) ⊎ (shape.1 ≡ 0) → settings ≡ []) → FitCrossings config shape junctions settings
-    fit-all none = record {
+    pub fit-all : IsTiled (layout_of (bare_drawing config shape)) → (shape.0 + 1 < 2 ^ 64) × (shape.1 + 1 < 2 ^ 64) → ((shape.0 ≡ 0) ⊎ (shape.1 ≡ 0) → settings ≡ []) →
+        FitCrossings config shape junctions settings
+    fit-all tiled counted none = record {
+      tiled = tiled;
+      counted = counted;
       none = none;
       corners = subst (All (SetsCrossing config shape junctions)) (sym fitted.are) (All-map (SetsCrossing config shape junctions) setting_of fitted.marks (λ k other within.
           let m = get_or fitted.marks k other in let is = fitted.each k other within in (m.0, m.1, refl, is.other, is.joins)));

@@ -1,11 +1,11 @@
 -- What was written where a picture was, or was not.
-use Rattle.std.proofs.Common.{◌≢◌, ℕ, Global, List, [], Result, Ok, Err, IfErr, IfOk, OnOk, refl, subst, sym}
+use Rattle.std.proofs.Common.{◌≢◌, ◌⊎◌, inl, inr, ℕ, Global, List, [], Result, Ok, Err, IfErr, IfOk, OnOk, refl, subst, sym}
 use Rattle.std.specs.Prelude.{MatchResult, String}
 use Rattle.std.specs.declared.alloc.AllocError.{AllocError}
 use Rattle.std.proofs.Output.{writes_in_calls_nil}
-use Rattle.papergrid_draw.specs.Deliveries.{Draws, IsLeftOff, IsStringOf}
+use Rattle.papergrid_draw.specs.Deliveries.{Draws, IsLeftOff, IsNotBegun, IsStringOf}
 use Rattle.papergrid_draw.specs.Drawings.{Drawing}
-use Rattle.papergrid_draw.specs.Faults.{IsDrawFault}
+use Rattle.papergrid_draw.specs.Faults.{IsDrawFault, IsDrawable}
 use Rattle.papergrid_draw.specs.declared.error.DrawError.{DrawError}
 use Rattle.papergrid_draw.specs.declared.error.DrawError.TheVariants.{Memory, NoRoom, NotTiled, OutOfTable, TooLarge, Write}
 use Rattle.papergrid_draw.specs.ForProofs.Sheets.{IsCutShort, IsDrawRefusal, Writes}
@@ -31,7 +31,7 @@ module _ {W : Type 0} (takes breaks : W → List ℕ → W → Type 0) where
   left-none a d bytes TooLarge is = refl
 
   pub draws-refused : {A : Type 0} (a : W) (d : Drawing) (bytes : List ℕ) (error : DrawError) → IsDrawRefusal d error → Draws takes breaks d a a bytes {A = A} (Err error)
-  draws-refused a d bytes error is = record { picture = tt; fault = is.0; left = left-none a d bytes error is }
+  draws-refused a d bytes error is = record { drawable = inr (error, refl, is.1, refl); picture = tt; fault = is.0; left = left-none a d bytes error is }
 
   -- a writer alone may fail in the midst
   cut-fault : (a b : W) (d : Drawing) (bytes : List ℕ) (error : DrawError) → IsCutShort takes breaks a b bytes error → IsDrawFault d error
@@ -42,9 +42,14 @@ module _ {W : Type 0} (takes breaks : W → List ℕ → W → Type 0) where
   cut-fault a b d bytes (NoRoom p) cut = absurd cut
   cut-fault a b d bytes TooLarge cut = absurd cut
 
-  pub draws-written : {A : Type 0} (a b : W) (d : Drawing) (bytes : List ℕ) (r : Result A DrawError) → Writes takes breaks a b bytes r → Draws takes breaks d a b bytes r
-  draws-written a b d bytes (Ok x) writes = record { picture = writes; fault = tt; left = tt }
-  draws-written a b d bytes (Err e) writes = record { picture = tt; fault = cut-fault a b d bytes e writes; left = left-cut a b bytes e writes }
+  pub draws-written : {A : Type 0} (a b : W) (d : Drawing) (bytes : List ℕ) (r : Result A DrawError) → IsDrawable d → Writes takes breaks a b bytes r → Draws takes breaks d a b bytes r
+  draws-written a b d bytes (Ok x) is writes = record { drawable = inl is; picture = writes; fault = tt; left = tt }
+  draws-written a b d bytes (Err e) is writes = record { drawable = inl is; picture = tt; fault = cut-fault a b d bytes e writes; left = left-cut a b bytes e writes }
+
+-- what was drawn can be
+pub begun-drawable : {W A : Type 0} (d : Drawing) (old new : W) (result : Result A DrawError) → IsDrawable d ⊎ IsNotBegun old new result → OnOk result (IsDrawable d)
+begun-drawable d old new (Ok x) is = elim is [ inl drawable ↦ drawable | inr none ↦ absurd (cc (none.1)) ]
+begun-drawable d old new (Err e) is = tt
 
 -- what holds of a string with the whole text, of why a table is not drawn, and of an allocation that fails
 pub string-drawn : {A : Type 0} (text : String Global) (P : String Global → Type 0) (Q : DrawError → Type 0) (drawn : Result A DrawError) (result : Result (String Global) DrawError) →

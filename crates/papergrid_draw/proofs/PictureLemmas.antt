@@ -1,5 +1,5 @@
 -- The sizes of cells that are seen through a view, and what is drawn with them.
-use Rattle.std.proofs.Common.{◌≡◌, ◌≢◌, ◌∙◌, ℕ, Bool, List, [], Option, None, Some, Result, Ok, Err, OnOk, IfErr, map, ap, inl, inr, refl, subst, sym}
+use Rattle.std.proofs.Common.{◌≡◌, ◌≢◌, ◌⊎◌, ◌∙◌, ℕ, Bool, List, [], Option, None, Some, Result, Ok, Err, OnOk, IfErr, map, ap, inl, inr, refl, subst, sym}
 use Rattle.std.specs.Prelude.{option_and_then, slice_get, slice_index_or}
 use Rattle.std.proofs.lemmas.Option.{get_or_from_slice_get, slice_get-get_or, slice_get_cases}
 use Rattle.papergrid_values.specs.declared.position.Position.{Position}
@@ -21,9 +21,10 @@ use Rattle.papergrid_layout.proofs.TotalLemmas.{room-of}
 use Rattle.papergrid_layout.specs.Answers.{UnlessMemoryError}
 use Rattle.papergrid_layout.specs.Tables.{IsTableOf, TableParts}
 use Rattle.papergrid_draw.specs.Contents.{lines_of}
+use Rattle.papergrid_draw.specs.Deliveries.{IsNotBegun}
 use Rattle.papergrid_draw.specs.Drawings.{Drawing, drawn_of}
 use Rattle.papergrid_draw.specs.Errors.{draw_error_of}
-use Rattle.papergrid_draw.specs.Faults.{AllHaveRoom, IsDrawFault}
+use Rattle.papergrid_draw.specs.Faults.{AllHaveRoom, IsDrawFault, IsDrawable}
 use Rattle.papergrid_draw.specs.Laws.{AreLinesAt}
 use Rattle.papergrid_draw.proofs.EstimateLemmas.{texts-leave-room}
 use Rattle.papergrid_draw.specs.declared.error.DrawError.{DrawError}
@@ -145,7 +146,7 @@ module _ {W : Type 0} (contents : W → Option (List ℕ)) (has_failed has_stall
 
   -- there are, and it was drawn with them, or not
   pub drawn-so : {A : Type 0} (d : Drawing) → IsDrawingWith columns texts sizing config d → (old new : W) (result : Result A DrawError) →
-      OnOk result (IsTaken contents has_failed has_stalled old (text_of d) new) → IfErr result (IsDrawFault d) → IfErr result (IsCutOff contents has_failed has_stalled old (text_of d) new) →
+      IsDrawable d ⊎ IsNotBegun old new result → OnOk result (IsTaken contents has_failed has_stalled old (text_of d) new) → IfErr result (IsDrawFault d) → IfErr result (IsCutOff contents has_failed has_stalled old (text_of d) new) →
       WritesPicture contents has_failed has_stalled (IsDrawingWith columns texts sizing config) (IsFaultWith columns texts sizing config) text_of old new result
   drawn-so d is = draws-so contents has_failed has_stalled (IsDrawingWith columns texts sizing config) (IsFaultWith columns texts sizing config) text_of d is (λ e fault. Undrawn d is fault)
 

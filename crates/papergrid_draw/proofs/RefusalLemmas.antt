@@ -1,10 +1,11 @@
 -- Why a table is not drawn, by what was found.
-use Rattle.std.proofs.Common.{◌≡◌, ◌⊎◌, ◌^◌, ◌<◌, ◌≤◌, ℕ, inl, inr, Option, Some, None, Result, Ok, Err, sym, subst}
+use Rattle.std.proofs.Common.{◌≡◌, ◌≢◌, ◌⊎◌, ◌^◌, ◌<◌, ◌≤◌, ℕ, inl, inr, Option, Some, None, Result, Ok, Err, sym, subst, arith}
 use Rattle.std.specs.declared.alloc.AllocError.{AllocError}
 use Rattle.std.specs.Option.{SomeIff, ok_or}
 use Rattle.std.proofs.lemmas.Bool.{cases_lt}
+use Rattle.papergrid_values.specs.declared.position.Position.{Position}
 use Rattle.papergrid_draw.specs.Drawings.{Drawing, layout_of}
-use Rattle.papergrid_draw.specs.Faults.{AllHaveRoom, whole_height}
+use Rattle.papergrid_draw.specs.Faults.{AllHaveRoom, IsDrawable, whole_height}
 use Rattle.papergrid_draw.specs.Margins.{whole_width}
 use Rattle.papergrid_draw.specs.Tiles.{IsTileFault, IsTiled}
 use Rattle.papergrid_draw.specs.ForProofs.Sheets.{IsDrawRefusal, IsRoomFault}
@@ -31,9 +32,9 @@ room-refusal d (Memory e) tiled is = (tt, λ same. cc)
 room-refusal d Write tiled is = absurd is
 
 -- no width was found
-pub large-refusal : (d : Drawing) (found : Option ℕ) (e : DrawError) → IsTiled (layout_of d) → AllHaveRoom d →
+pub large-refusal : (d : Drawing) (found : Option ℕ) (e : DrawError) → (d.shape.0 ≢ 0) × (d.shape.1 ≢ 0) → IsTiled (layout_of d) → AllHaveRoom d →
     SomeIff found ((whole_width d < 2 ^ 64) × (whole_height d < 2 ^ 64)) (whole_width d) → Err e ≡ ok_or found TooLarge → IsDrawRefusal d e
-large-refusal d None e tiled room none at =
+large-refusal d None e some tiled room none at =
     let same : TooLarge ≡ e = cc in
     let large : (2 ^ 64 ≤ whole_width d) ⊎ (2 ^ 64 ≤ whole_height d) = elim (cases_lt (whole_width d) (2 ^ 64)) [
       | inl narrow ↦ elim (cases_lt (whole_height d) (2 ^ 64)) [
@@ -42,8 +43,32 @@ large-refusal d None e tiled room none at =
       ]
       | inr wide ↦ inl wide
     ] in
-    subst (IsDrawRefusal d) same ((tiled, room, large), λ other. cc)
-large-refusal d (Some n) e tiled room some at = absurd (cc)
+    subst (IsDrawRefusal d) same ((tiled, room, (some.0, some.1, large)), λ other. cc)
+large-refusal d (Some n) e some tiled room found at = absurd (cc)
+
+-- a table whose width was found
+pub found-drawable : (d : Drawing) (found : Option ℕ) (n : ℕ) → IsTiled (layout_of d) → AllHaveRoom d →
+    SomeIff found ((whole_width d < 2 ^ 64) × (whole_height d < 2 ^ 64)) (whole_width d) → ◌≡◌ {A = Result ℕ DrawError} (Ok n) (ok_or found TooLarge) → IsDrawable d
+found-drawable d None n tiled room none at = absurd (cc)
+found-drawable d (Some m) n tiled room some at = record {
+  tiled = tiled;
+  room = room;
+  small = λ large. elim large.2 [ inl wide ↦ (let narrow = some.0.0 in omega (arith, narrow, wide)) | inr high ↦ (let low = some.0.1 in omega (arith, low, high)) ];
+}
+
+-- a table without rows or without columns
+pub empty-drawable : (d : Drawing) → (d.shape.0 ≡ 0) ⊎ (d.shape.1 ≡ 0) → IsDrawable d
+empty-drawable d none = record {
+  tiled = record {
+    within = λ p ends. outside p ends.0.row_in ends.0.col_in;
+    once = λ q inside. absurd (outside q inside.0 inside.1);
+  };
+  room = λ p lacks. outside p lacks.is_cell.row_in lacks.is_cell.col_in;
+  small = λ large. elim none [ inl rows ↦ large.0 rows | inr columns ↦ large.1 columns ];
+}
+  where
+    outside : (p : Position) → p.row < d.shape.0 → p.col < d.shape.1 → ⊥
+    outside p row_in col_in = elim none [ inl rows ↦ omega (arith, row_in, rows) | inr columns ↦ omega (arith, col_in, columns) ]
 
 -- the width that was found
 pub width-found : (found : Option ℕ) (whole n : ℕ) (P : Type 0) → SomeIff found P whole → ◌≡◌ {A = Result ℕ DrawError} (Ok n) (ok_or found TooLarge) → n ≡ whole

@@ -18,7 +18,8 @@ use Rattle.papergrid_draw.specs.Bytes.{line_bytes}
 use Rattle.papergrid_draw.specs.Characters.{Mark, has_overrides, plain_mark, segment, segment_character, segment_piece, vertical}
 use Rattle.papergrid_draw.specs.Drawings.{Drawing, layout_of}
 use Rattle.papergrid_draw.specs.Drawn.{OnLine, RuleLine, TextLine, after_these, column_stretch, content_from, crossing_stretch, drawn_lines, draws_horizontal, draws_vertical, over_line, owner_at, rule_line, rule_lines, stands_over, text_line, vertical_pieces}
-use Rattle.papergrid_draw.specs.Margins.{printed, with_margins}
+use Rattle.papergrid_draw.specs.Lined.{ended_lines, lined}
+use Rattle.papergrid_draw.specs.Margins.{printed, printed_lines, with_margins}
 use Rattle.papergrid_draw.specs.Pieces.{Line, fill_text}
 use Rattle.papergrid_draw.proofs.OverrideLemmas.{has_overrides-IsOverridden, tells_overrides}
 use Rattle.papergrid_draw.proofs.PrinterLemmas.{bottom_lines, top_lines}
@@ -97,28 +98,45 @@ module _ (d : Drawing) (x : SpannedConfig) where
         flat_map (λ r. same-rules r i ++ map (λ k. TextLine (same-text r k i)) (range_with_len 0 (d.heights r))) (range_with_len 0 d.shape.0)
         ++ same-rules d.shape.0 i
 
-    same-printed : printed other ≡ printed d
-    unfolding printed
-    same-printed =
+    -- lines with their margins that are written in the same way
+    same-written : (write : List (List ℕ) → List ℕ) →
+        (if d.shape.0 == 0 || d.shape.1 == 0 then [] else write (printed_lines other)) ≡ (if d.shape.0 == 0 || d.shape.1 == 0 then [] else write (printed_lines d))
+    same-written write =
         ap (λ drawn. if d.shape.0 == 0 || d.shape.1 == 0 then []
-        else join_with_byte 10 (top_lines d ++ map (with_margins d) (enumerate_from 0 (map line_bytes drawn)) ++ bottom_lines d))
+        else write (top_lines d ++ map (with_margins d) (enumerate_from 0 (map line_bytes drawn)) ++ bottom_lines d))
         same-lines
 
+    same-printed : printed other ≡ printed d
+    unfolding printed
+    same-printed = same-written (join_with_byte 10)
+
+    same-lined : lined other ≡ lined d
+    unfolding lined
+    same-lined = same-written ended_lines
+
 -- of two drawings whose configurations hold the same
-pub same-settings-picture : (d e : Drawing) → HoldTheSameSettings d.config e.config → d.widths ≡ e.widths → d.heights ≡ e.heights →
-    d.shape ≡ e.shape → d.lines ≡ e.lines → d.color ≡ e.color → printed d ≡ printed e
-same-settings-picture d e same widths heights shape lines color =
-    ap printed (λ i. record {
-      config = same.but_overrides i;
-      widths = widths i;
-      heights = heights i;
-      shape = shape i;
-      lines = lines i;
-      color = color i;
-    })
-    ∙ same-printed e d.config (record {
-      horizontal_chars = same.horizontal_chars;
-      vertical_chars = same.vertical_chars;
-      horizontal_colors = same.horizontal_colors;
-      vertical_colors = same.vertical_colors;
-    })
+module _ (d e : Drawing) (same : HoldTheSameSettings d.config e.config) (widths : d.widths ≡ e.widths) (heights : d.heights ≡ e.heights)
+    (shape : d.shape ≡ e.shape) (lines : d.lines ≡ e.lines) (color : d.color ≡ e.color) where
+  but-overrides : d ≡ other e d.config
+  but-overrides = λ i. record {
+    config = same.but_overrides i;
+    widths = widths i;
+    heights = heights i;
+    shape = shape i;
+    lines = lines i;
+    color = color i;
+  }
+
+  overrides : HasSameOverrides e d.config
+  overrides = record {
+    horizontal_chars = same.horizontal_chars;
+    vertical_chars = same.vertical_chars;
+    horizontal_colors = same.horizontal_colors;
+    vertical_colors = same.vertical_colors;
+  }
+
+  pub same-settings-picture : printed d ≡ printed e
+  same-settings-picture = ap printed but-overrides ∙ same-printed e d.config overrides
+
+  pub same-settings-lines : lined d ≡ lined e
+  same-settings-lines = ap lined but-overrides ∙ same-lined e d.config overrides

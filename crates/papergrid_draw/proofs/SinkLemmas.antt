@@ -6,15 +6,16 @@ use Rattle.std.specs.List.{FoldsTo, concat}
 use Rattle.std.proofs.Math.Seq.{take-append-add, take-append_seam}
 use Rattle.std.proofs.lemmas.Bool.{cases_lt}
 use Rattle.std.proofs.lemmas.List.{take-append-le, take_all}
-use Rattle.papergrid_draw.specs.Deliveries.{BreaksOff, IsLeftOff, TakesBeginning}
+use Rattle.papergrid_draw.specs.Deliveries.{BreaksOff, IsLeftOff, IsNotBegun, TakesBeginning}
 use Rattle.papergrid_draw.specs.declared.error.DrawError.{DrawError}
 use Rattle.papergrid_draw.specs.declared.error.DrawError.TheVariants.{Memory, NoRoom, NotTiled, OutOfTable, TooLarge, Write}
 use Rattle.papergrid_draw.specs.Drawings.{Drawing}
-use Rattle.papergrid_draw.specs.Faults.{IsDrawFault}
+use Rattle.papergrid_draw.specs.Faults.{IsDrawFault, IsDrawable}
 use Rattle.papergrid_text.specs.Transfer.{HasBegun, HasEnded, IsSteady, IsTaken}
 use Rattle.papergrid_draw.specs.Sinks.{IsCutOff, IsRefusal, IsUndrawn, WritesPicture}
 use Rattle.papergrid_draw.specs.ForProofs.Sinks.{IsBroken}
 use Rattle.papergrid_text.proofs.KnownLemmas.{appends_more}
+use Rattle.papergrid_draw.proofs.DeliveryLemmas.{begun-drawable}
 
 pub appends_none : (a : Option (List ℕ)) → Appends a a []
 appends_none None = tt
@@ -144,33 +145,40 @@ module _ {W : Type 0} (contents : W → Option (List ℕ)) (has_failed has_stall
 
     -- there is one, and its text was taken, or not
     pub draws-so : {A : Type 0} (d : Drawing) → IsDrawn d → ((e : DrawError) → IsDrawFault d e → IsFault e) → (old new : W) (result : Result A DrawError) →
-        OnOk result (took old (text_of d) new) → IfErr result (IsDrawFault d) → IfErr result (IsCutOff contents has_failed has_stalled old (text_of d) new) →
+        IsDrawable d ⊎ IsNotBegun old new result → OnOk result (took old (text_of d) new) → IfErr result (IsDrawFault d) → IfErr result (IsCutOff contents has_failed has_stalled old (text_of d) new) →
         WritesPicture contents has_failed has_stalled IsDrawn IsFault text_of old new result
-    draws-so d is follows old new (Ok x) taken fault left = (d, is, taken)
-    draws-so d is follows old new (Err e) taken fault left = record { fault = λ named. follows e fault; nothing = left.nothing; left = inr (d, is, left) }
+    draws-so d is follows old new (Ok x) begun taken fault left = (d, is, begun-drawable d old new (Ok x) begun, taken)
+    draws-so d is follows old new (Err e) begun taken fault left = record {
+      fault = λ named. follows e fault;
+      nothing = left.nothing;
+      left = elim begun [
+        | inl drawable ↦ inr (d, is, drawable, left)
+        | inr none ↦ inl ((λ write. none.2 (cc (none.1, write))), none.3)
+      ];
+    }
 
     -- what follows of the drawing and of the fault
     pub draws-also : (IsAlso : Drawing → Type 0) (IsWhy : DrawError → Type 0) → ((d : Drawing) → IsDrawn d → IsAlso d) → ((e : DrawError) → IsFault e → IsWhy e) →
         {A : Type 0} (old new : W) (result : Result A DrawError) → WritesPicture contents has_failed has_stalled IsDrawn IsFault text_of old new result →
         WritesPicture contents has_failed has_stalled IsAlso IsWhy text_of old new result
-    draws-also IsAlso IsWhy also why old new (Ok x) so = (so.0, also so.0 so.1, so.2)
+    draws-also IsAlso IsWhy also why old new (Ok x) so = (so.0, also so.0 so.1, so.2, so.3)
     draws-also IsAlso IsWhy also why old new (Err e) so = record {
       fault = λ named. why e (so.fault named);
       nothing = so.nothing;
-      left = elim so.left [ inl same ↦ inl same | inr cut ↦ inr (cut.0, also cut.0 cut.1, cut.2) ];
+      left = elim so.left [ inl same ↦ inl same | inr cut ↦ inr (cut.0, also cut.0 cut.1, cut.2, cut.3) ];
     }
 
     -- it is as it was, or took a beginning
     pub undrawn-beginning : (old new : W) (e : DrawError) → IsUndrawn contents has_failed has_stalled IsDrawn IsFault text_of old new e →
-        (new ≡ old) ⊎ ((d : Drawing) × IsDrawn d × HasBegun contents has_failed has_stalled old (text_of d) new)
-    undrawn-beginning old new e so = elim so.left [ inl same ↦ inl same.1 | inr cut ↦ inr (cut.0, cut.1, cut.2.beginning) ]
+        (new ≡ old) ⊎ ((d : Drawing) × IsDrawn d × IsDrawable d × HasBegun contents has_failed has_stalled old (text_of d) new)
+    undrawn-beginning old new e so = elim so.left [ inl same ↦ inl same.1 | inr cut ↦ inr (cut.0, cut.1, cut.2, cut.3.beginning) ]
 
     -- where a write failed it has ended
     pub undrawn-write : (old new : W) (e : DrawError) → IsUndrawn contents has_failed has_stalled IsDrawn IsFault text_of old new e → e ≡ Write →
         HasEnded contents has_failed has_stalled old new
-    undrawn-write old new e so is = elim so.left [ inl same ↦ absurd (same.0 is) | inr cut ↦ cut.2.write is ]
+    undrawn-write old new e so is = elim so.left [ inl same ↦ absurd (same.0 is) | inr cut ↦ cut.3.write is ]
 
     -- else it failed and stalled no more than before
     pub undrawn-steady : (old new : W) (e : DrawError) → IsUndrawn contents has_failed has_stalled IsDrawn IsFault text_of old new e →
         (e ≡ Write) ⊎ IsSteady contents has_failed has_stalled old new
-    undrawn-steady old new e so = elim so.left [ inl same ↦ inr (ap has_failed same.1, ap has_stalled same.1) | inr cut ↦ cut.2.steady ]
+    undrawn-steady old new e so = elim so.left [ inl same ↦ inr (ap has_failed same.1, ap has_stalled same.1) | inr cut ↦ cut.3.steady ]

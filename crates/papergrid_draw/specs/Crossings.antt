@@ -118,11 +118,13 @@ pub record DifferInCrossings (old new : SpannedConfig) : Type 0 where
   pub parts : parts_of_borders new.characters
       ≡ record (parts_of_borders old.characters) { corner = (parts_of_borders new.characters).corner }
 
--- these settings fit the crossings of a configuration, in a table of so many rows and columns, to the lines that meet
--- there. They set single crossings that have another character. Where they are added to it, each crossing that is seen
--- has the character of its lines. There are none for a table without rows or columns
+-- these settings fit the crossings of a configuration, in a table of so many rows and columns that its spans tile, to the
+-- lines that meet there. They set single crossings that have another character. Where they are added to it, each crossing
+-- that is seen has the character of its lines. There are none for a table without rows or columns
 pub record FitCrossings (config : SpannedConfig) (shape : ℕ × ℕ) (junctions : Junctions) (settings : List Setting)
     : Type 0 where
+  pub tiled : IsTiled (layout_of (bare_drawing config shape))
+  pub counted : (shape.0 + 1 < 2 ^ 64) × (shape.1 + 1 < 2 ^ 64)
   pub none : (shape.0 ≡ 0) ⊎ (shape.1 ≡ 0) → settings ≡ []
   pub corners : All (SetsCrossing config shape junctions) settings
   pub in_range : All (λ setting. is_in_range setting ≡ true) settings

@@ -1,12 +1,12 @@
 -- Texts that are delivered to a writer, one after the other. `takes` relates the writer before a
 -- text that it took, the text, and the writer after it. `breaks` relates the same of a text that it
 -- did not take, or not all of it.
-use Rattle.std.specs.Prelude.{◌≡◌, ℕ, List, ◌++◌, Result, Ok, Err, IfErr, OnOk, String}
+use Rattle.std.specs.Prelude.{◌≡◌, ◌≢◌, ◌⊎◌, ℕ, List, ◌++◌, Result, Ok, Err, IfErr, OnOk, String}
 use Rattle.std.specs.declared.alloc.Global.{Global}
 use Rattle.std.specs.declared.alloc.AllocError.{AllocError}
 use Rattle.std.specs.Fmt.{WritesInCalls}
 use Rattle.papergrid_draw.specs.Drawings.{Drawing}
-use Rattle.papergrid_draw.specs.Faults.{IsDrawFault}
+use Rattle.papergrid_draw.specs.Faults.{IsDrawFault, IsDrawable}
 use Rattle.papergrid_draw.specs.declared.error.DrawError.{DrawError}
 use Rattle.papergrid_draw.specs.declared.error.DrawError.TheVariants.{Memory, NoRoom, NotTiled, OutOfTable, TooLarge, Write}
 
@@ -40,9 +40,14 @@ module _ {W : Type 0} where
   IsLeftOff takes breaks old bytes new (NoRoom p) = new ≡ old
   IsLeftOff takes breaks old bytes new TooLarge = new ≡ old
 
-  -- the bytes of a drawing are delivered, or why not all of them
+  -- it was not begun: an error came before anything was written, and no write failed
+  abbrev pub IsNotBegun : {A : Type 0} → W → W → Result A DrawError → Type 0
+  IsNotBegun old new result = (e : DrawError) × (result ≡ Err e) × (e ≢ Write) × (new ≡ old)
+
+  -- the bytes of a drawing are delivered, or why not all of them. It is begun only where it can be drawn
   pub record Draws (takes breaks : W → List ℕ → W → Type 0) (d : Drawing) (old new : W) (bytes : List ℕ)
       {A : Type 0} (result : Result A DrawError) : Type 0 where
+    pub drawable : IsDrawable d ⊎ IsNotBegun old new result
     pub picture : OnOk result (WritesInCalls takes old bytes new)
     pub fault : IfErr result (IsDrawFault d)
     pub left : IfErr result (IsLeftOff takes breaks old bytes new)

@@ -2,6 +2,7 @@
 use Rattle.std.specs.Prelude.{◌≡◌, ◌≢◌, ◌⊎◌, ⊤, ℕ, Bool, List, Option, Result, Ok, Err}
 use Rattle.papergrid_text.specs.Transfer.{HasBegun, HasEnded, IsSteady, IsTaken}
 use Rattle.papergrid_draw.specs.Drawings.{Drawing}
+use Rattle.papergrid_draw.specs.Faults.{IsDrawable}
 use Rattle.papergrid_draw.specs.declared.error.DrawError.{DrawError}
 use Rattle.papergrid_draw.specs.declared.error.DrawError.TheVariants.{Memory, Write}
 
@@ -20,14 +21,14 @@ module _ {W : Type 0} (contents : W → Option (List ℕ)) (has_failed has_stall
     pub steady : (e ≡ Write) ⊎ IsSteady contents has_failed has_stalled old new
 
   module _ (IsDrawn : Drawing → Type 0) (IsFault : DrawError → Type 0) (text_of : Drawing → List ℕ) where
-    -- why there is no picture, and the sink after that: as it was, as always after a refusal, or with a beginning of a
-    -- drawing's text. A write fails only where there is a drawing
+    -- why there is no picture, and the sink after that: as it was, as always after a refusal, or with a beginning of the
+    -- text of a drawing that can be drawn. A write fails only where there is one
     pub record IsUndrawn (old new : W) (e : DrawError) : Type 0 where
       pub fault : IsRefusal e → IsFault e
       pub nothing : IsRefusal e → new ≡ old
-      pub left : ((e ≢ Write) × (new ≡ old)) ⊎ ((d : Drawing) × IsDrawn d × IsCutOff old (text_of d) new e)
+      pub left : ((e ≢ Write) × (new ≡ old)) ⊎ ((d : Drawing) × IsDrawn d × IsDrawable d × IsCutOff old (text_of d) new e)
 
-    -- the text of such a drawing was taken, or why it was not
+    -- the text of such a drawing was taken, which can be drawn, or why it was not
     abbrev pub WritesPicture : {A : Type 0} → W → W → Result A DrawError → Type 0
-    WritesPicture old new (Ok x) = (d : Drawing) × IsDrawn d × IsTaken contents has_failed has_stalled old (text_of d) new
+    WritesPicture old new (Ok x) = (d : Drawing) × IsDrawn d × IsDrawable d × IsTaken contents has_failed has_stalled old (text_of d) new
     WritesPicture old new (Err e) = IsUndrawn old new e

@@ -23,13 +23,20 @@ ghost use Rattle.papergrid_draw.specs.Colored.{AreAlikeButColors, AreInBlocks, i
 ghost use Rattle.papergrid_draw.specs.Contents.{Block, above, before, block_at, content, shown, shown_line};
 ghost use Rattle.papergrid_draw.specs.Drawings.{Drawing, layout_of};
 ghost use Rattle.papergrid_draw.specs.Drawn.{DrawnLine, drawn_lines, draws_horizontal, draws_vertical, owner_at, stands_over, stands_over_crossing};
-ghost use Rattle.papergrid_draw.specs.Faults.{AllHaveRoom, whole_height};
+ghost use Rattle.papergrid_draw.specs.Faults.{AllHaveRoom, IsDrawFault, IsDrawable, whole_height};
 ghost use Rattle.papergrid_draw.specs.Laws.{AreDrawnAt, AreLinesAt, AreMeasuredAt, terminal_columns, pieces_of, text_piece};
+ghost use Rattle.papergrid_draw.specs.Lined.{lined};
 ghost use Rattle.papergrid_draw.specs.Margins.{margin_line, printed, printed_lines, whole_width, with_margins};
 ghost use Rattle.papergrid_draw.specs.Pieces.{fill_text};
+ghost use Rattle.papergrid_draw.specs.Pictures.{IsDrawingBy, IsPictureFault};
 ghost use Rattle.papergrid_draw.specs.Separated.{AreApart, HasSeparators, IsHonest, setting_separates, pieces_text};
 ghost use Rattle.papergrid_draw.specs.Sources.{IsOfCell, IsOfTable};
+ghost use Rattle.papergrid_draw.specs.Sinks.{IsRefusal};
 ghost use Rattle.papergrid_draw.specs.Tiles.{IsTiled};
+ghost use Rattle.papergrid_draw.specs.declared.error.DrawError.{DrawError};
+ghost use Rattle.papergrid_tracks.specs.declared.sizing.Sizing.{Sizing};
+
+use papergrid_config::laws::{equal_by_history, equal_configurations};
 
 /// A picture has as many lines as its table is high, with both margins, and a line feed between two. That of a table
 /// without rows or columns is empty.
@@ -206,6 +213,34 @@ pub fn margins_in_place()
         d.config.margin.left.size ≡ 0 → d.config.margin.right.size ≡ 0 →
         printed_lines d ≡ map line_bytes (drawn_lines d) }
 {}
+
+/// A table is drawn, or there is one reason why it is not, and never both.
+pub fn one_answer()
+    ensures drawn { (d : Drawing) (e : DrawError) →
+        IsDrawable d → IsRefusal e → IsDrawFault d e → ⊥ }
+    ensures refused { (d : Drawing) (e f : DrawError) → IsRefusal e → IsRefusal f →
+        IsDrawFault d e → IsDrawFault d f → e ≡ f }
+{}
+
+/// Settings and texts have one picture, or there is one reason why they have none, and never both, whatever configuration
+/// the settings make.
+pub fn one_picture()
+    ensures pictures { (columns : ℕ) (texts : List (List (List ℕ))) (sizing : Sizing)
+        (settings : List Setting) (d e : Drawing) →
+        IsDrawingBy columns texts sizing settings d → IsDrawingBy columns texts sizing settings e →
+        (printed d ≡ printed e) × (lined d ≡ lined e) }
+    ensures drawn { (columns : ℕ) (texts : List (List (List ℕ))) (sizing : Sizing)
+        (settings : List Setting) (d : Drawing) (e : DrawError) →
+        IsDrawingBy columns texts sizing settings d → IsDrawable d →
+        IsRefusal e → IsPictureFault columns texts sizing settings e → ⊥ }
+    ensures refused { (columns : ℕ) (texts : List (List (List ℕ))) (sizing : Sizing)
+        (settings : List Setting) (e f : DrawError) → IsRefusal e → IsRefusal f →
+        IsPictureFault columns texts sizing settings e →
+        IsPictureFault columns texts sizing settings f → e ≡ f }
+{
+    equal_by_history();
+    equal_configurations();
+}
 
 /// Tables that hold the same have the same picture: how their settings came about, and how they are kept, makes no
 /// difference.

@@ -1,8 +1,9 @@
 //! The picture as a text of lines.
 
-ghost use Rattle.std.specs.Prelude.{◌≡◌, ◌≢◌, ◌+◌, ◌↔◌, IfErr, IsTrue, OnOk};
+ghost use Rattle.std.specs.Prelude.{◌≡◌, ◌≢◌, ◌⊎◌, ◌+◌, ◌↔◌, IfErr, IsTrue, OnOk};
+ghost use Rattle.papergrid_draw.specs.Deliveries.{IsNotBegun};
 ghost use Rattle.papergrid_draw.specs.Drawings.{Drawing, drawn_of, layout_of};
-ghost use Rattle.papergrid_draw.specs.Faults.{AllHaveRoom, IsDrawFault, whole_height};
+ghost use Rattle.papergrid_draw.specs.Faults.{AllHaveRoom, IsDrawFault, IsDrawable, whole_height};
 ghost use Rattle.papergrid_text.specs.Transfer.{IsTaken};
 ghost use Rattle.papergrid_draw.specs.Sinks.{IsCutOff};
 ghost use Rattle.papergrid_layout.specs.Tables.{view_of};
@@ -56,6 +57,8 @@ pub fn draw_lines<'a, S: Cells, W: Sink>(
 where
     S::Cell: Drop,
     requires { room ≡ Room.Known → AllHaveRoom (drawn_of S.lines S.color table.now cells.now) }
+    ensures drawable { IsDrawable (drawn_of S.lines S.color table.now cells.now)
+        ⊎ IsNotBegun sink.old sink.new result }
     ensures picture { OnOk result (IsTaken W.contents W.has_failed W.has_stalled sink.old
         (lined (drawn_of S.lines S.color table.now cells.now)) sink.new) }
     ensures fault { IfErr result (IsDrawFault (drawn_of S.lines S.color table.now cells.now)) }

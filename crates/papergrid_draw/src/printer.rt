@@ -1,17 +1,17 @@
 //! The picture of a table, written line by line.
 
-ghost use Rattle.std.specs.Prelude.{◌≡◌, ◌-◌, ◌^◌, ◌<◌, ◌≢◌, ⊤, IfErr, IfOk, OnOk, string_bytes};
+ghost use Rattle.std.specs.Prelude.{◌≡◌, ◌⊎◌, ◌-◌, ◌^◌, ◌<◌, ◌≢◌, ⊤, IfErr, IfOk, OnOk, length, string_bytes};
 ghost use Rattle.std.specs.Fmt.{WritesInCalls};
 ghost use Rattle.std.specs.List.{join_with_byte};
 ghost use Rattle.std.specs.Option.{SomeIff};
-ghost use Rattle.papergrid_draw.specs.Deliveries.{Draws, IsLeftOff, IsStringOf};
+ghost use Rattle.papergrid_draw.specs.Deliveries.{Draws, IsLeftOff, IsNotBegun, IsStringOf};
 ghost use Rattle.papergrid_draw.specs.Drawings.{drawn_of};
 ghost use Rattle.papergrid_draw.specs.Drawn.{drawn_lines};
-ghost use Rattle.papergrid_draw.specs.Faults.{AllHaveRoom, IsDrawFault, whole_height};
+ghost use Rattle.papergrid_draw.specs.Faults.{AllHaveRoom, IsDrawFault, IsDrawable, whole_height};
 ghost use Rattle.papergrid_draw.specs.Margins.{printed, printed_lines, whole_width};
 ghost use Rattle.papergrid_text.specs.Transfer.{IsTaken};
 ghost use Rattle.papergrid_draw.specs.Sinks.{IsCutOff};
-ghost use Rattle.papergrid_draw.specs.ForProofs.FilledFrames.{filled};
+ghost use Rattle.papergrid_draw.specs.ForProofs.FilledFrames.{filled, filled_table};
 ghost use Rattle.papergrid_draw.specs.ForProofs.Pages.{Texts, drawing_of};
 ghost use Rattle.papergrid_draw.specs.ForProofs.Sheets.{Writes, WritesLines, margined};
 ghost use Rattle.papergrid_draw.specs.declared.error.DrawError.TheVariants.{Memory, Write};
@@ -52,6 +52,8 @@ pub fn draw_cells<'a, S: Cells, W: Sink>(
 where
     S::Cell: Drop,
     requires { room ≡ Room.Known → AllHaveRoom (drawn_of S.lines S.color table.now cells.now) }
+    ensures drawable { IsDrawable (drawn_of S.lines S.color table.now cells.now)
+        ⊎ IsNotBegun sink.old sink.new result }
     ensures picture { OnOk result (IsTaken W.contents W.has_failed W.has_stalled sink.old
         (printed (drawn_of S.lines S.color table.now cells.now)) sink.new) }
     ensures fault { IfErr result (IsDrawFault (drawn_of S.lines S.color table.now cells.now)) }
@@ -76,6 +78,8 @@ pub fn draw_text<'a, S: Cells, F: fmt::Write>(
 ) -> Result<(), DrawError>
 where
     S::Cell: Drop,
+    ensures drawable { IsDrawable (drawn_of S.lines S.color table.now cells.now)
+        ⊎ IsNotBegun writer.old writer.new result }
     ensures picture { OnOk result (WritesInCalls F.write_str_gives writer.old
         (printed (drawn_of S.lines S.color table.now cells.now)) writer.new) }
     ensures fault { IfErr result (IsDrawFault (drawn_of S.lines S.color table.now cells.now)) }
@@ -98,6 +102,7 @@ pub fn drawn_string<'a, S: Cells>(
 ) -> Result<String, DrawError>
 where
     S::Cell: Drop,
+    ensures drawable { OnOk result (IsDrawable (drawn_of S.lines S.color table.now cells.now)) }
     ensures picture { IfOk result (λ text. string_bytes text
         ≡ printed (drawn_of S.lines S.color table.now cells.now)) }
     ensures fault { IfErr result (IsDrawFault (drawn_of S.lines S.color table.now cells.now)) }
@@ -156,7 +161,8 @@ fn draw_table<'a, S: Cells, D: Delivery<W>, W>(
 ) -> Result<(), DrawError>
 where
     S::Cell: Drop,
-    requires { room ≡ Room.Known → AllHaveRoom (drawn_of S.lines S.color table.now cells.now) }
+    requires some { (length table.now.heights ≢ 0) × (length table.now.widths ≢ 0) }
+    requires room { room ≡ Room.Known → AllHaveRoom (drawn_of S.lines S.color table.now cells.now) }
     ensures { let d = drawn_of S.lines S.color table.now cells.now in
         Draws D.takes D.breaks d writer.old writer.new
         (join_with_byte 10 (printed_lines d)) result }
@@ -177,7 +183,9 @@ where
 {
     /// Writes the picture of a tiled table, if its cells have room and it is not too large.
     fn draw_tiled<D: Delivery<W>, W>(&self, room: Room, writer: &mut W) -> Result<(), DrawError>
-        requires { room ≡ Room.Known → AllHaveRoom (filled S.lines S.color self.now) }
+        requires some { (length (filled_table self.now).heights ≢ 0)
+            × (length (filled_table self.now).widths ≢ 0) }
+        requires room { room ≡ Room.Known → AllHaveRoom (filled S.lines S.color self.now) }
         ensures { let d = filled S.lines S.color self.now in
             Draws D.takes D.breaks d writer.old writer.new
             (join_with_byte 10 (printed_lines d)) result }

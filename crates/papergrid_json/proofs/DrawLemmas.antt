@@ -1,10 +1,13 @@
 -- The table of a document, and what is drawn with it.
-use Rattle.std.proofs.Common.{Global, String, Vec, ◌≡◌, ◌∙◌, ℕ, List, Option, None, Some, Result, Ok, Err, map, ap, refl, subst, sym}
+use Rattle.std.proofs.Common.{Global, String, Vec, ◌≡◌, ◌∙◌, ◌^◌, ◌<◌, ℕ, List, Option, None, Some, Result, Ok, Err, arith, inl, inr, map, ap, refl, subst, sym}
 use Rattle.std.specs.Prelude.{length, option_map, slice_index, string_bytes}
 use Rattle.std.specs.BTreeMap.{get}
 use Rattle.papergrid_values.specs.MapKeys.{position_cmp}
+use Rattle.papergrid_values.specs.declared.direction.Direction.{Direction}
+use Rattle.papergrid_values.specs.declared.direction.Direction.TheVariants.{Columns, Rows}
 use Rattle.papergrid_config.specs.declared.spanned.SpannedConfig.{SpannedConfig}
 use Rattle.papergrid_layout.specs.Answers.{AreBothSizes, UnlessMemory, UnlessMemoryError}
+use Rattle.papergrid_layout.specs.Places.{total_along}
 use Rattle.papergrid_layout.specs.Tables.{IsTable, IsTableOf, IsTotalTooLarge, TableParts, view_of}
 use Rattle.papergrid_tracks.specs.declared.sizing.Sizing.{Sizing}
 use Rattle.papergrid_tracks.specs.declared.error.LayoutError.{LayoutError}
@@ -44,7 +47,17 @@ module _ (document : Document) (sizing : Sizing) (config : SpannedConfig) where
   pub table-own : (own : OwnSizes) (widths heights : List ℕ) (result : Result TableParts LayoutError) → document.sizes ≡ Some own → widths ≡ own.widths.items → heights ≡ own.heights.items →
       IsTable (record { config = config; widths = widths; heights = heights }) result → UnlessMemory result (IsDocumentTable document sizing config result)
   table-own own widths heights (Ok table) is across down so =
-      (ap (λ t. t.config) so.0, subst (λ s. AreSizesOf document sizing config s table.widths table.heights) (sym is) (ap (λ t. t.widths) so.0 ∙ across, ap (λ t. t.heights) so.0 ∙ down))
+      let own_parts : ◌≡◌ {A = TableParts} (record { config = config; widths = widths; heights = heights }) (record { config = config; widths = own.widths.items; heights = own.heights.items }) =
+      λ i. record { config = config; widths = across i; heights = down i } in
+      let fits : (direction : Direction) → total_along (view_of (record { config = config; widths = own.widths.items; heights = own.heights.items })) direction < 2 ^ 64 =
+      λ direction. subst (λ parts. total_along (view_of parts) direction < 2 ^ 64) own_parts (so.1 direction) in
+      let small : IsTotalTooLarge (view_of (record { config = config; widths = own.widths.items; heights = own.heights.items })) → ⊥ = λ large. elim large [
+        | inl wide ↦ (let fit = fits Columns in omega (arith, fit, wide))
+        | inr high ↦ (let fit = fits Rows in omega (arith, fit, high))
+      ] in (
+        ap (λ t. t.config) so.0,
+        subst (λ s. AreSizesOf document sizing config s table.widths table.heights) (sym is) (ap (λ t. t.widths) so.0 ∙ across, ap (λ t. t.heights) so.0 ∙ down, small),
+      )
   table-own own widths heights (Err e) is across down so =
       own-error own e is (subst (λ w. UnlessMemoryError e (IsTooLarge e w own.heights.items)) across (subst (λ h. UnlessMemoryError e (IsTooLarge e widths h)) down so))
 

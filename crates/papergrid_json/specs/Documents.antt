@@ -132,12 +132,12 @@ abbrev pub setting_in : List ℕ → Option Setting
 setting_in text = option_and_then (λ value. accepted_at (Some value)) (read text)
 
 module _ {T A : Type 0} (found_in : List ℕ → Option T) (Is : T → A → Type 0) where
-  -- a value is read of a text that tells it so; a text that is refused is no JSON in UTF-8, or tells none
+  -- a value is read of a text in UTF-8 that tells it so; a text that is refused is no JSON in UTF-8, or tells none
   abbrev pub IsReadBy : List ℕ → Result A DocumentError → Type 0
-  IsReadBy text (Ok value) = (told : T) × (found_in text ≡ Some told) × Is told value
+  IsReadBy text (Ok value) = IsUtf8 text × ((told : T) × (found_in text ≡ Some told) × Is told value)
   IsReadBy text (Err Memory) = ⊤
   IsReadBy text (Err (Syntax line byte)) = IsUtf8 text → read text ≡ None
-  IsReadBy text (Err error) = (is_some (read text) ≡ true) × (found_in text ≡ None)
+  IsReadBy text (Err error) = IsUtf8 text × (is_some (read text) ≡ true) × (found_in text ≡ None)
 
 -- a document is read so
 abbrev pub IsDocumentRead : List ℕ → Result Document DocumentError → Type 0

@@ -33,16 +33,20 @@ document_drawing config document widths heights = record {
 
 module _ (document : Document) (sizing : Sizing) where
   module _ (config : SpannedConfig) where
-    -- its widths and heights: those of its own, else those that are chosen so
+    -- the table of sizes of its own
+    abbrev pub own_table : OwnSizes → TableParts
+    own_table own = record { config = config; widths = own.widths.items; heights = own.heights.items }
+
+    -- its widths and heights: those of its own, unless they come to too much, else those that are chosen so
     abbrev pub AreSizesOf : Option OwnSizes → List ℕ → List ℕ → Type 0
     AreSizesOf None widths heights = AreBothSizes (spanned_grid config) text_measure document.columns (document_texts document) sizing widths heights
-    AreSizesOf (Some own) widths heights = (widths ≡ own.widths.items) × (heights ≡ own.heights.items)
+    AreSizesOf (Some own) widths heights =
+        (widths ≡ own.widths.items) × (heights ≡ own.heights.items) × (IsTotalTooLarge (view_of (own_table own)) → ⊥)
 
     -- why it has none: there are none that are chosen so, or those of its own come to too much
     abbrev pub AreNoSizesOf : Option OwnSizes → LayoutError → Type 0
     AreNoSizesOf None e = IsBothRefused (spanned_grid config) text_measure document.columns (document_texts document) sizing e
-    AreNoSizesOf (Some own) e =
-        (e ≡ TooLarge) × IsTotalTooLarge (view_of (record { config = config; widths = own.widths.items; heights = own.heights.items }))
+    AreNoSizesOf (Some own) e = (e ≡ TooLarge) × IsTotalTooLarge (view_of (own_table own))
 
     -- its table, or why there is none
     abbrev pub IsDocumentTable : Result TableParts LayoutError → Type 0

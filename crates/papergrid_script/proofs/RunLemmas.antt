@@ -19,7 +19,7 @@ module _ {R W : Type 0} (remaining : R → Option (List ℕ)) (read_failed : R �
     reader_works = memory refl ∙ reader_works;
     writer_works = writer_works;
     writer_moves = refl;
-    kept = inl refl;
+    kept = inl (refl, refl);
   }
   fault-before Write memory read never = absurd (never refl)
 

@@ -24,12 +24,13 @@ module _ {R W : Type 0} (remaining : R → Option (List ℕ)) (read_failed : R �
     pub nothing : writer_new ≡ writer_old
     pub kept : input_new ≡ input_old
 
-  -- an allocation failed, and no read and no write. Whether a write took nothing is as before
+  -- an allocation failed, and no read and no write. Whether a write took nothing is as before. Nothing was written unless the
+  -- whole input was kept
   pub record HasMemoryFault : Type 0 where
     pub reader_works : read_failed reader_new ≡ false
     pub writer_works : has_failed writer_new ≡ false
     pub writer_moves : has_stalled writer_new ≡ has_stalled writer_old
-    pub kept : (input_new ≡ input_old) ⊎ IsWholeInput (remaining reader_old) (remaining reader_new) input_new.items
+    pub kept : ((input_new ≡ input_old) × (writer_new ≡ writer_old)) ⊎ IsWholeInput (remaining reader_old) (remaining reader_new) input_new.items
 
   -- the writer failed, or took nothing of a piece that isn't empty, once the whole input was kept
   pub record HasWriteFault : Type 0 where

@@ -19,7 +19,6 @@ ghost use Rattle.papergrid_script.specs.Grammar.{Said, entity_said, number_said,
 ghost use Rattle.papergrid_script.specs.Grids.{grid_of};
 ghost use Rattle.papergrid_script.specs.Outputs.{end_by, output_by};
 ghost use Rattle.papergrid_script.specs.Reasons.{IsTableReason, reason_by, reason_text};
-ghost use Rattle.papergrid_script.specs.Rows.{WorkedScripts};
 ghost use Rattle.papergrid_script.specs.ScriptLines.{AreScriptLines};
 ghost use Rattle.papergrid_script.specs.Scripts.{Table, table_of};
 ghost use Rattle.papergrid_script.specs.Spelling.{IsEntity, IsLine, IsNumber};
@@ -28,10 +27,7 @@ ghost use Rattle.papergrid_script.specs.Totals.{AreSized, IsTableTooLarge};
 ghost use Rattle.papergrid_script.specs.declared.answer.RunEnd.{RunEnd};
 ghost use Rattle.papergrid_script.specs.declared.explained.Reason.{Reason};
 
-/// What the worked scripts give, by the definitions alone.
-pub fn worked_rows()
-    ensures { WorkedScripts }
-{}
+pub use crate::worked::worked_rows;
 
 /// What an estimate reads of a configuration that settings make, which is which positions are visible and the spans,
 /// the paddings and the lines, is what the settings decide.

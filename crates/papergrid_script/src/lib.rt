@@ -17,3 +17,4 @@ mod script_line;
 pub mod script_setting;
 mod setting_line;
 mod unescape;
+pub mod worked;

@@ -32,14 +32,14 @@ module _ {W : Type 0} (contents : W → Option (List ℕ)) (has_failed has_stall
 
     pub document-run : (drawn : Result ⊤ DrawError) → WritesPicture contents has_failed has_stalled (IsDocumentDrawing document sizing) (IsDocumentFault document sizing) lined old new drawn →
         WritesOutput contents has_failed has_stalled (λ _. ⊤) (IsDocumentRun sizing text) old new (document_end drawn)
-    document-run (Ok drawn) so = (lined so.0, (document, read, (so.0, so.1, refl)), record { taken = so.2; silent = λ never. absurd (never tt) })
+    document-run (Ok drawn) so = (lined so.0, (document, read, (so.0, so.1, so.2, refl)), record { taken = so.3; silent = λ never. absurd (never tt) })
     document-run (Err (draw_errors.OutOfTable p)) so = refused (draw_errors.OutOfTable p) tt so
     document-run (Err (draw_errors.NotTiled p)) so = refused (draw_errors.NotTiled p) tt so
     document-run (Err (draw_errors.NoRoom p)) so = refused (draw_errors.NoRoom p) tt so
     document-run (Err draw_errors.TooLarge) so = refused draw_errors.TooLarge tt so
     document-run (Err (draw_errors.Memory e)) so =
         picture-broken contents has_failed has_stalled (IsDocumentDrawing document sizing) (IsDocumentFault document sizing) (IsDocumentRun sizing text) Drawn
-        (λ d is. (document, read, (d, is, refl))) old new (draw_errors.Memory e) run_faults.Memory (λ is. cc is) (λ is. cc is, λ is. cc is) so
+        (λ d is drawable. (document, read, (d, is, drawable, refl))) old new (draw_errors.Memory e) run_faults.Memory (λ is. cc is) (λ is. cc is, λ is. cc is) so
     document-run (Err draw_errors.Write) so =
         picture-broken contents has_failed has_stalled (IsDocumentDrawing document sizing) (IsDocumentFault document sizing) (IsDocumentRun sizing text) Drawn
-        (λ d is. (document, read, (d, is, refl))) old new draw_errors.Write run_faults.Write (λ is. cc is) (λ is. refl, λ is. refl) so
+        (λ d is drawable. (document, read, (d, is, drawable, refl))) old new draw_errors.Write run_faults.Write (λ is. cc is) (λ is. refl, λ is. refl) so

@@ -2,6 +2,7 @@
 use Rattle.std.specs.Prelude.{◌≡◌, ℕ, List, [], Option, None, Some, Ok, IsUtf8}
 use Rattle.papergrid_tracks.specs.declared.sizing.Sizing.{Sizing}
 use Rattle.papergrid_draw.specs.Drawings.{Drawing}
+use Rattle.papergrid_draw.specs.Faults.{IsDrawable}
 use Rattle.papergrid_draw.specs.Lined.{lined}
 use Rattle.papergrid_draw.specs.Sinks.{IsRefusal}
 use Rattle.papergrid_csv.specs.Pictures.{IsCsvRun}
@@ -20,10 +21,11 @@ use Rattle.papergrid_table.specs.declared.document.DocumentEnd.TheVariants as do
 use Rattle.papergrid_table.specs.declared.picture.End.{End}
 use Rattle.papergrid_table.specs.declared.picture.End.TheVariants.{OfDocument, OfScript, OfText}
 
--- how the run of a JSON text ends, and what is written: the lines of the picture of the document that it tells, or nothing
+-- how the run of a JSON text ends, and what is written: the lines of the picture of the document that it tells, which can be
+-- drawn, or nothing
 abbrev pub IsDocumentRun : Sizing → List ℕ → DocumentEnd → List ℕ → Type 0
 IsDocumentRun sizing text documents.Drawn output =
-    (document : Document) × IsDocumentRead text (Ok document) × ((d : Drawing) × IsDocumentDrawing document sizing d × (output ≡ lined d))
+    (document : Document) × IsDocumentRead text (Ok document) × ((d : Drawing) × IsDocumentDrawing document sizing d × IsDrawable d × (output ≡ lined d))
 IsDocumentRun sizing text (documents.Refused e) output =
     (document : Document) × IsDocumentRead text (Ok document) × IsRefusal e × IsDocumentFault document sizing e × (output ≡ [])
 IsDocumentRun sizing text documents.Bad output = (IsUtf8 text → document_in text ≡ None) × (output ≡ [])

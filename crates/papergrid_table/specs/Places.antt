@@ -1,7 +1,10 @@
 -- Where something stands in a text: its line, and its byte or its character there. All are counted from 1.
-use Rattle.std.specs.Prelude.{◌+◌, ◌-◌, ◌||◌, ℕ, count_by, drop, if◌then◌else◌, length, List, nat_eq, nat_le, not, slice_index, take, zip}
+use Rattle.std.specs.Prelude.{◌≡◌, ◌⊎◌, ◌+◌, ◌-◌, ◌||◌, ℕ, IsUtf8, count_by, drop, if◌then◌else◌, length, List, nat_eq, nat_le, not, slice_index, take, zip}
 use Rattle.std.specs.List.{prefix_len, suffix_len}
 use Rattle.std.specs.Fmt.{is_char_start}
+use Rattle.std.specs.Str.{IsValidUpTo}
+use Rattle.papergrid_csv.specs.Starts.{HasNoRecord, IsRecordStart}
+use Rattle.papergrid_csv.specs.declared.reading.Reading.{Reading}
 use Rattle.papergrid_table.specs.declared.compared.Difference.{Difference}
 use Rattle.papergrid_table.specs.declared.places.Spot.{Spot}
 
@@ -32,3 +35,16 @@ first_mismatch picture table = record {
   line = line_count (take (same_bytes picture table) picture);
   column = column_after picture (same_bytes picture table);
 }
+
+-- the record of a text after so many others begins after so many bytes, or after none where there are fewer
+abbrev pub IsStartOrNone : Reading → List ℕ → ℕ → ℕ → Type 0
+IsStartOrNone reading text count start = IsRecordStart reading text count start ⊎ (HasNoRecord reading text count × (start ≡ 0))
+
+-- the first byte of a text that is not UTF-8 stands after so many, or the text is UTF-8 and ends there
+abbrev pub IsFirstBad : List ℕ → ℕ → Type 0
+IsFirstBad text n = (¬ (IsUtf8 text) × IsValidUpTo text n) ⊎ (IsUtf8 text × (n ≡ length text))
+
+-- the line of the first byte of the record after so many others, or the last line where there are fewer
+abbrev pub IsLineOfRecord : Reading → List ℕ → ℕ → ℕ → Type 0
+IsLineOfRecord reading text count line = (HasNoRecord reading text count × (line ≡ line_count text))
+    ⊎ ((start : ℕ) × IsRecordStart reading text count start × (line ≡ line_count (take start text)))

@@ -1,5 +1,5 @@
 -- The status that the program ends with, by how a run ended.
-use Rattle.std.specs.Prelude.{ℕ, Ok}
+use Rattle.std.specs.Prelude.{◌≡◌, ◌⊎◌, ◌&&◌, ℕ, Bool, Ok, false, nat_eq, not}
 use Rattle.papergrid_script.specs.Statuses.{run_status}
 use Rattle.papergrid_csv.specs.declared.run.CsvEnd.{CsvEnd}
 use Rattle.papergrid_csv.specs.declared.run.CsvEnd.TheVariants as texts
@@ -27,3 +27,9 @@ abbrev pub end_status : End → ℕ
 end_status (OfText end) = text_status end
 end_status (OfScript end) = run_status (Ok end)
 end_status (OfDocument end) = document_status end
+
+-- a run that ended so has its status, or that of a fault, where there is no memory for what is said of it. Of a table that was
+-- drawn nothing is said, unless the cells that certify it are asked for
+abbrev pub HasStatus : End → Bool → ℕ → Type 0
+HasStatus end witness status =
+    (status ≡ end_status end) ⊎ ((status ≡ 3) × ((nat_eq (end_status end) 0 && not witness) ≡ false))

@@ -2,7 +2,7 @@
 use Rattle.std.specs.Prelude.{◌≤◌, ◌+◌, ◌-◌, ◌^◌, ℕ, AllPairs, List, min}
 use Rattle.std.specs.List.Sorted.{IsPermutation}
 use Rattle.papergrid_values.specs.declared.position.Position.{Position}
-use Rattle.papergrid_text.specs.Text.{text_width}
+use Rattle.papergrid_text.specs.Text.{greatest_width, split_lines}
 use Rattle.papergrid_csv.specs.Judging.{field_at}
 use Rattle.papergrid_csv.specs.declared.request.Request.{Request}
 use Rattle.papergrid_table.specs.declared.wide.Asking.{Asking}
@@ -11,7 +11,7 @@ use Rattle.papergrid_table.specs.declared.wide.Asking.{Asking}
 abbrev pub asked_at : Request → List (List (List ℕ)) → Position → Asking
 asked_at request rows p = record {
   position = p;
-  width = min (text_width (field_at rows p) + (request.padding.left.size + request.padding.right.size)) (2 ^ 64 - 1);
+  width = min (greatest_width (split_lines (field_at rows p)) + (request.padding.left.size + request.padding.right.size)) (2 ^ 64 - 1);
 }
 
 -- these cells, each at least as wide as those behind it

@@ -1,6 +1,6 @@
 //! What is said of a text that has no picture.
 
-use crate::places::{Spot, first_bad_byte, line_of_record, spot_after};
+use crate::places::{Spot, bad_byte_of, line_of_record, spot_after};
 use crate::rows::{text_at, whole_rows};
 use crate::spans::{hider_of, last_at, overlap_at};
 use crate::values::{alignment_name, span_text};
@@ -26,8 +26,8 @@ pub fn message_of(
         CsvEnd::TooWide(width) => too_wide(alloc, request, name, input, width),
         CsvEnd::Hides(position) => hides(alloc, request, input, position),
         CsvEnd::NoColumn(number) => no_column(alloc, request, input, number),
-        CsvEnd::NotText(_) => {
-            let Spot { line, byte } = first_bad_byte(input);
+        CsvEnd::NotText(before) => {
+            let Spot { line, byte } = bad_byte_of(request.reading, input, before);
             format!(in alloc; "{name}: line {line}, byte {byte}: not UTF-8")
         }
         CsvEnd::Unclosed(count) => {

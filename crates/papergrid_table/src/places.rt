@@ -1,11 +1,9 @@
 //! Where in a text something stands.
 
-ghost use Rattle.std.specs.Prelude.{◌≡◌, ◌≤◌, ◌⊎◌, ℕ, count_by, IsUtf8, length, nat_eq, not, take};
+ghost use Rattle.std.specs.Prelude.{◌≡◌, ◌≤◌, ◌+◌, ℕ, count_by, drop, length, nat_eq, not};
 ghost use Rattle.std.specs.Fmt.{is_char_start};
 ghost use Rattle.std.specs.List.{suffix_len};
-ghost use Rattle.std.specs.Str.{IsValidUpTo};
-ghost use Rattle.papergrid_csv.specs.Starts.{HasNoRecord, IsRecordStart};
-ghost use Rattle.papergrid_table.specs.Places.{column_after, last_line, line_count, spot_after};
+ghost use Rattle.papergrid_table.specs.Places.{IsFirstBad, IsLineOfRecord, IsStartOrNone, column_after, last_line, line_count, spot_after};
 
 use papergrid_csv::{Reading, record_start};
 
@@ -73,23 +71,47 @@ fn begins_character(byte: u8) -> bool
     byte & 0xc0 != 0x80
 }
 
-/// Where the first byte is that is not UTF-8, or where the text ends.
-pub fn first_bad_byte(text: &[u8]) -> Spot
-    ensures text { IsUtf8 text.now → result ≡ spot_after text.now (length text.now) }
-    ensures bad { ¬ (IsUtf8 text.now) →
-        (n : ℕ) × IsValidUpTo text.now n × (result ≡ spot_after text.now n) }
+/// Where the first byte is that is not UTF-8, in the record after so many others or behind it, or where the text ends.
+pub fn bad_byte_of(reading: Reading, text: &[u8], count: usize) -> Spot
+    ensures { (start : ℕ) × (n : ℕ) × IsStartOrNone reading text.now count start
+        × IsFirstBad (drop start text.now) n × (result ≡ spot_after text.now (start + n)) }
+{
+    let start = start_of(reading, text, count);
+    let valid = valid_length(behind(text, start));
+    spot_after(text, start + valid)
+}
+
+/// How many bytes stand before the record after so many others, or none where there are fewer.
+fn start_of(reading: Reading, text: &[u8], count: usize) -> usize
+    ensures { IsStartOrNone reading text.now count result }
+{
+    match record_start(reading, text, count) {
+        Some(start) => start,
+        None => 0,
+    }
+}
+
+/// What stands behind so many bytes of a text.
+fn behind(text: &[u8], count: usize) -> &[u8]
+    ensures { result.now ≡ drop count text.now }
+{
+    text.get(count..).unwrap_or(b"")
+}
+
+/// How many bytes at the front of a text are UTF-8.
+fn valid_length(text: &[u8]) -> usize
+    ensures first { IsFirstBad text.now result }
+    ensures bound { result ≤ length text.now }
 {
     match std::str::from_utf8(text) {
-        Ok(_) => spot_after(text, text.len()),
-        Err(error) => spot_after(text, error.valid_up_to()),
+        Ok(_) => text.len(),
+        Err(error) => error.valid_up_to(),
     }
 }
 
 /// The line of the first byte of the record after so many others, or the last line where there are fewer.
 pub fn line_of_record(reading: Reading, text: &[u8], count: usize) -> usize
-    ensures { (HasNoRecord reading text.now count × (result ≡ line_count text.now))
-        ⊎ ((start : ℕ) × IsRecordStart reading text.now count start
-        × (result ≡ line_count (take start text.now))) }
+    ensures { IsLineOfRecord reading text.now count result }
 {
     match record_start(reading, text, count) {
         Some(start) => spot_after(text, start).line,

@@ -83,6 +83,9 @@ pub struct Watched<'p, T> {
 }
 
 impl<T: Read> Read for Watched<'_, T> {
+    // A failed read is no end of the bytes.
+    ghost remaining = { λ watched. T.remaining watched.inner };
+
     fn read(&mut self, buffer: &mut [u8]) -> io::Result<usize> {
         match self.inner.read(buffer) {
             Ok(count) => {
@@ -95,6 +98,8 @@ impl<T: Read> Read for Watched<'_, T> {
 }
 
 impl<T: Write> Write for Watched<'_, T> {
+    ghost contents = { λ watched. T.contents watched.inner };
+
     fn write(&mut self, piece: &[u8]) -> io::Result<usize> {
         if self.progress.gives_way {
             self.progress.end();

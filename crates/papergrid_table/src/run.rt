@@ -1,8 +1,8 @@
 //! A run: the table of an input drawn, or compared, and what keeps it from being drawn.
 
-ghost use Rattle.std.specs.Prelude.{◌&&◌, ◌≡◌, ◌⊎◌, if◌then◌else◌, is_some, nat_eq};
+ghost use Rattle.std.specs.Prelude.{◌&&◌, ◌≡◌, ℕ, IfErr, MatchResult, if◌then◌else◌, is_some, nat_eq};
 ghost use Rattle.std.specs.Process.{exit_status};
-ghost use Rattle.papergrid_table.specs.Statuses.{end_status};
+ghost use Rattle.papergrid_table.specs.Statuses.{HasStatus, end_status};
 
 use crate::arguments::Wanted;
 use crate::compared::{Difference, compare};
@@ -70,9 +70,24 @@ fn drawn<R: Read + Drop>(
     progress.end();
     // After a fault nothing more is written.
     let (output, _) = out.into_parts();
+    finished(rt, wanted, name, &input, end, output.inner.is_closed())
+}
+
+/// Ends a run that drew a table. Whether nobody reads the output any more is told.
+fn finished(
+    rt: &HostRuntime,
+    wanted: &mut Wanted,
+    name: &str,
+    input: &[u8],
+    end: Result<End, RunFault>,
+    is_closed: bool,
+) -> ExitCode
+    ensures { MatchResult end (λ end. HasStatus end wanted.old.witness (exit_status result))
+        (λ _. exit_status result ≡ 3) }
+{
     match end {
-        Ok(end) => ended(rt, wanted, name, &input, end),
-        Err(reason) => fault(rt, name, reason, output.inner.is_closed()),
+        Ok(end) => ended(rt, wanted, name, input, end),
+        Err(reason) => fault(rt, name, reason, is_closed),
     }
 }
 
@@ -103,17 +118,37 @@ fn compared<R: Read + Drop>(
     let mut input = Vec::new(rt.alloc());
     let compared = compare(rt.alloc(), wanted, &mut source, &picture.bytes, &mut input);
     progress.end();
+    finished_check(rt, wanted, (name, picture.name.as_str()), &input, compared)
+}
+
+/// Ends a run that compared the table of the first name with the file of the second.
+fn finished_check(
+    rt: &HostRuntime,
+    wanted: &mut Wanted,
+    names: (&str, &str),
+    input: &[u8],
+    compared: Result<(End, Option<Difference>), RunFault>,
+) -> ExitCode
+    // Where a picture differs it has 1. An input that has no table differs from none.
+    ensures { MatchResult compared (λ found. (code : ℕ)
+        × HasStatus found.0 wanted.old.witness code
+        × (exit_status result
+        ≡ (if nat_eq (end_status found.0) 0 && is_some found.1 then 1 else code)))
+        (λ _. exit_status result ≡ 3) }
+{
     match compared {
         Ok((end, difference)) => {
-            let code = ended(rt, wanted, name, &input, end);
-            judged(rt, code, (name, picture.name.as_str()), end, difference)
+            let code = ended(rt, wanted, names.0, input, end);
+            judged(rt, code, names, end, difference)
         }
-        Err(reason) => fault(rt, name, reason, false),
+        Err(reason) => fault(rt, names.0, reason, false),
     }
 }
 
 /// The file at a path, or the status where it is not read. The name is that of the input.
-fn picture_at(rt: &HostRuntime, name: &str, path: &str) -> Result<Picture, ExitCode> {
+fn picture_at(rt: &HostRuntime, name: &str, path: &str) -> Result<Picture, ExitCode>
+    ensures { IfErr result (λ code. exit_status code ≡ 3) }
+{
     let file = match File::open(rt, path) {
         Ok(file) => file,
         Err(error) => return Err(unopened(rt, rt.alloc(), path, &error)),
@@ -170,7 +205,7 @@ fn is_drawn(end: End) -> bool
 /// Says what kept the table from being drawn, or which cells show that it is no smaller, where that is asked.
 fn ended(rt: &HostRuntime, wanted: &mut Wanted, name: &str, input: &[u8], end: End) -> ExitCode
     // Where there is no memory for what is said, it is a fault.
-    ensures { (exit_status result ≡ end_status end) ⊎ (exit_status result ≡ 3) }
+    ensures { HasStatus end wanted.old.witness (exit_status result) }
 {
     if is_drawn(end) && !wanted.witness {
         return ExitCode::from(0);

@@ -3,12 +3,13 @@
 ghost use Rattle.std.specs.Prelude.{◌≡◌, ◌<◌, ◌^◌, All, IfOk, IfSome, OnOk, Some, map};
 ghost use Rattle.papergrid_csv.specs.Certified.{HasPicture};
 ghost use Rattle.papergrid_csv.specs.Rows.{held_texts};
+ghost use Rattle.papergrid_table.specs.Places.{IsLineOfRecord};
 ghost use Rattle.papergrid_table.specs.Wide.{AreWidestFirst, asked_at};
 
 use crate::places::line_of_record;
 use crate::rows::{shown_rows, text_at};
 use bumpalo::Bump;
-use papergrid::util::string::get_text_width;
+use papergrid::util::string::get_text_dimension;
 use papergrid_csv::{Request, Rows, certify_csv, has_picture};
 use papergrid_layout::Solved;
 use papergrid_script::program::shown;
@@ -81,8 +82,9 @@ fn cut_that_fits(
     widths: &Solved,
     input: &[u8],
 ) -> Result<Option<usize>, AllocError>
-    ensures { IfOk result (λ found. IfSome found (λ columns.
-        HasPicture (record request.old { cut = Some columns }) input.now)) }
+    ensures fits { IfOk result (λ found. IfSome found (λ columns.
+        HasPicture request.new input.now × (request.new.cut ≡ Some columns))) }
+    ensures request { request.new ≡ record request.old { cut = request.new.cut } }
 {
     let most = request.max_width.unwrap_or(0);
     let Some(columns) = sure_cut(request, widths, most) else {
@@ -226,7 +228,7 @@ fn asked_of(read: Read<'_, '_>, position: Position) -> Asking
 {
     let padding = &read.request.padding;
     let sides = padding.left.size.saturating_add(padding.right.size);
-    let text = get_text_width(text_at(read.rows, position).unwrap_or(""));
+    let (_, text) = get_text_dimension(text_at(read.rows, position).unwrap_or(""));
     Asking {
         position,
         width: text.saturating_add(sides),
@@ -238,7 +240,10 @@ fn cell_name(
     alloc: Global,
     read: Read<'_, '_>,
     position: Position,
-) -> Result<(String, usize), AllocError> {
+) -> Result<(String, usize), AllocError>
+    ensures { IfOk result (λ named. IsLineOfRecord read.entry.request.now.reading
+        read.entry.input.now position.row named.1) }
+{
     let line = line_of_record(read.request.reading, read.input, position.row);
     let head = match text_at(read.rows, Position::new(0, position.col)) {
         Some(head) if read.request.has_head && !head.is_empty() => shown(alloc, head)?,

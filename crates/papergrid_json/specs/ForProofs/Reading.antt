@@ -49,7 +49,7 @@ IsTest so (Err e) = so ≡ false
 
 -- the JSON value that a text is, or why it is none
 abbrev pub IsJsonRead : List ℕ → Result Value DocumentError → Type 0
-IsJsonRead text (Ok value) = read text ≡ Some (view value)
+IsJsonRead text (Ok value) = IsUtf8 text × (read text ≡ Some (view value))
 IsJsonRead text (Err document_error.Memory) = ⊤
 IsJsonRead text (Err (document_error.Syntax line byte)) = IsUtf8 text → read text ≡ None
 IsJsonRead text (Err error) = ⊥

@@ -1,5 +1,7 @@
 //! A writer that notes where nobody reads any more.
 
+ghost use Rattle.std.specs.Prelude.{◌≡◌, false};
+
 use std::io;
 use std::io::{ErrorKind, Write};
 
@@ -12,7 +14,9 @@ pub struct Output<W> {
 
 impl<W: Write> Output<W> {
     /// A writer over this one.
-    pub fn new(writer: W) -> Output<W> {
+    pub fn new(writer: W) -> Output<W>
+        ensures { result ≡ record { writer = writer; is_closed = false } }
+    {
         Output {
             writer,
             is_closed: false,
@@ -20,12 +24,16 @@ impl<W: Write> Output<W> {
     }
 
     /// Whether a write or a flush failed since nobody reads any more.
-    pub fn is_closed(&self) -> bool {
+    pub fn is_closed(&self) -> bool
+        ensures { result ≡ self.now.is_closed }
+    {
         self.is_closed
     }
 
     /// Notes how a write or a flush ended.
-    fn note(&mut self, error: &io::Error) {
+    fn note(&mut self, error: &io::Error)
+        ensures { self.new.writer ≡ self.old.writer }
+    {
         if error.kind() == ErrorKind::BrokenPipe {
             self.is_closed = true;
         }
@@ -33,6 +41,8 @@ impl<W: Write> Output<W> {
 }
 
 impl<W: Write> Write for Output<W> {
+    ghost contents = { λ output. W.contents output.writer };
+
     fn write(&mut self, piece: &[u8]) -> io::Result<usize> {
         match self.writer.write(piece) {
             Ok(count) => Ok(count),

@@ -28,4 +28,4 @@ returns g c =
     drawn-so g.W.Sink.contents g.W.Sink.has_failed g.W.Sink.has_stalled c.args.config.now (column_count records) (texts_held g.T.AsStr.text records) c.args.sizing printed _
     (drawing-told (λ cell. cell.now) g.T.AsStr.text (λ row. row.items) c.args.config.now c.args.sizing refl refl c.in_ok-table.table c.in_ok-table.ensures
     c.as_slice.result.now (c.as_slice.ensures.value ∙ ap (λ rows. rows.items) c.deref.ensures))
-    c.args.sink.now c.draw_cells.new.sink c.draw_cells.result c.draw_cells.ensures.picture c.draw_cells.ensures.fault c.draw_cells.ensures.left
+    c.args.sink.now c.draw_cells.new.sink c.draw_cells.result c.draw_cells.ensures.drawable c.draw_cells.ensures.picture c.draw_cells.ensures.fault c.draw_cells.ensures.left

@@ -28,4 +28,4 @@ returns g c =
     let columns = ap (λ r. r.count_columns) c.new-records.ensures in
     drawn-so g.W.Sink.contents g.W.Sink.has_failed g.W.Sink.has_stalled c.args.config.now c.args.columns (rows_seen c.args.rows.now) c.args.sizing lined _
     (drawing-told (λ cell. cell.now) (λ text. text.now) (λ row. row.now) c.args.config.now c.args.sizing columns rows c.in_ok-table.table c.in_ok-table.ensures c.args.rows.now refl)
-    c.args.writer.now c.draw_lines.new.sink c.draw_lines.result c.draw_lines.ensures.picture c.draw_lines.ensures.fault c.draw_lines.ensures.left
+    c.args.writer.now c.draw_lines.new.sink c.draw_lines.result c.draw_lines.ensures.drawable c.draw_lines.ensures.picture c.draw_lines.ensures.fault c.draw_lines.ensures.left

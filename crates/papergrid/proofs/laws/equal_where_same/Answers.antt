@@ -1,4 +1,4 @@
-use Rattle.papergrid.proofs.EqualLemmas.{same-end, same-failed, same-fault, same-reason, same-sizing}
+use Rattle.papergrid.proofs.EqualLemmas.{same-draw_error, same-end, same-failed, same-fault, same-reason, same-sizing}
 use Rattle.papergrid.proofs.laws.equal_where_same.Goals as goal
 
 pub returns : goal.returns
@@ -8,4 +8,5 @@ returns c = record {
   end = same-end;
   fault = same-fault;
   failed = same-failed;
+  draw_error = same-draw_error;
 }

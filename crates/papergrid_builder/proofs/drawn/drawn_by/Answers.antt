@@ -1,6 +1,7 @@
-use Rattle.std.proofs.Common.{◌∙◌, ap, refl}
+use Rattle.std.proofs.Common.{◌∙◌, Ok, ap, refl}
 use Rattle.std.proofs.lemmas.Result.{err_from_is_err_and}
 use Rattle.papergrid_draw.specs.Pictures.{Undrawn}
+use Rattle.papergrid_draw.proofs.DeliveryLemmas.{begun-drawable}
 use Rattle.papergrid_draw.proofs.PictureLemmas.{drawing-told, has-room, refusal-told, room-with}
 use Rattle.papergrid_builder.specs.BuilderStates.{longest}
 use Rattle.papergrid_builder.specs.ForProofs.Texts.{rows_lent}
@@ -29,7 +30,7 @@ returns-in-Ok-clause-ok c =
     let columns = ap (λ r. r.count_columns) c.new-records.ensures ∙ c.longest_of-columns.ensures in
     let is = drawing-told (λ cell. cell.now) (λ text. text.now) (λ row. row.now) c.args.config.now c.args.sizing columns rows c.in_ok-table.table c.in_ok-table.ensures c.args.rows.now refl in
     let written = c.in-Ok.ensures.picture.bytes_are in
-    (_, is, ap (λ v. v.items) c.into_bytes.ensures ∙ (rw c.new-sink.ensures.bytes at written))
+    (_, is, begun-drawable _ _ _ (Ok tt) (rw c.in-Ok.is at c.draw_lines.ensures.drawable), ap (λ v. v.items) c.into_bytes.ensures ∙ (rw c.new-sink.ensures.bytes at written))
 
 pub refusal-requires : goal.refusal-requires
 refusal-requires c =

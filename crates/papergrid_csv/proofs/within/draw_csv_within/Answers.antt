@@ -1,7 +1,7 @@
 use Rattle.std.proofs.Common.{arith}
 use Rattle.std.proofs.lemmas.Result.{err_from_is_err_and}
 use Rattle.papergrid_csv.specs.Rows.{held_texts}
-use Rattle.papergrid_csv.proofs.WithinLemmas.{broken-first, broken-next, next-request, run-within, tried-first, tried-next, unread-within}
+use Rattle.papergrid_csv.proofs.WithinLemmas.{broken-first, broken-next, next-greatest, next-request, run-within, tried-first, tried-next, unread-within}
 use Rattle.papergrid_csv.proofs.within.draw_csv_within.Goals as goal
 use Rattle.papergrid_csv.proofs.within.draw_csv_within.Goals.{then-loop-next-test+else-is_too_wide, else-loop-next-test}
 
@@ -28,6 +28,15 @@ returns-in_err-end-2-clause-runs g c =
     rw (p.1, p.2) (broken-next g.W.Sink.contents g.W.Sink.has_failed g.W.Sink.has_stalled c.args.request.now c.args.width c.args.input.now
     c.args.writer.now c.loop-next.writer c.loop-next.request c.loop-next.end c.loop-next.next c.loop-next.invariant c.in-Ok.rows.columns (held_texts c.in-Ok.rows.rows) c.in-Ok.ensures.rows
     c.loop-next-test.true wide.0 wide.1 c.draw_rows-in-loop-next.new.writer c.in_err-end-2.field-0.0 c.in_err-end-2.ensures)
+
+pub returns-in_err-end-2-clause-greatest : goal.returns-in_err-end-2-clause-greatest
+returns-in_err-end-2-clause-greatest g c =
+    let wide = c.is_too_wide.ensures.0 c.if-is_too_wide.true in
+    next-greatest g.W.Sink.contents g.W.Sink.has_failed g.W.Sink.has_stalled c.args.request.now c.args.width c.args.input.now
+    c.args.writer.now c.loop-next.writer c.loop-next.request c.loop-next.end c.loop-next.next c.loop-next.invariant c.loop-next-test.true wide.0 wide.1
+
+pub returns-clause-greatest : goal.returns-clause-greatest
+returns-clause-greatest g c = c.loop-next.invariant.greatest
 
 pub returns-in_err-end-2-clause-request : goal.returns-in_err-end-2-clause-request
 returns-in_err-end-2-clause-request g c =

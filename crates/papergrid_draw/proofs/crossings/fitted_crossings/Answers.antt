@@ -50,7 +50,8 @@ returns-then-shape-eq0-clause-ok c =
       | then-shape-eq0-via-else-shape-eq0+then-shape-eq0-2 w ↦ inr w.if-shape-eq0-2.true
     ] in
     subst (FitCrossings config shape c.args.junctions.now) (sym c.new.ensures.items)
-    (fit-all c.args.junctions.now [] config shape (fitted-empty config shape c.args.junctions.now (shape.0 + 1) none) (λ _. refl))
+    (fit-all c.args.junctions.now [] config shape (fitted-empty config shape c.args.junctions.now (shape.0 + 1) none)
+    (c.in_ok-check_tiles.ensures.ok _ refl refl) (c.if-not-can_be_counted.ensures.0 refl) (λ _. refl))
 
 pub fit_lines-requires-clause-tiled : goal.fit_lines-requires-clause-tiled
 fit_lines-requires-clause-tiled c = c.in_ok-check_tiles.ensures.ok _ refl refl
@@ -58,4 +59,5 @@ fit_lines-requires-clause-tiled c = c.in_ok-check_tiles.ensures.ok _ refl refl
 pub returns-clause-ok : goal.returns-clause-ok
 returns-clause-ok c =
     fit-all c.args.junctions.now c.in_ok-fit_lines.field-0.items c.args.config.now c.args.shape c.in_ok-fit_lines.ensures
+    (c.in_ok-check_tiles.ensures.ok _ refl refl) (c.if-not-can_be_counted.ensures.0 refl)
     (λ none. absurd (elim none [ inl rows ↦ c.if-shape-eq0.false rows | inr columns ↦ c.if-shape-eq0-2.false columns ]))

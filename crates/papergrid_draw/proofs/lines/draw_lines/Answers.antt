@@ -1,12 +1,30 @@
-use Rattle.std.proofs.Common.{◌∙◌, refl, subst, sym}
+use Rattle.std.proofs.Common.{◌∙◌, inl, inr, refl, subst, sym}
 use Rattle.std.proofs.lemmas.Result.{err_from_is_err_and}
 use Rattle.std.proofs.lemmas.Bool.{false≢true}
 use Rattle.papergrid_draw.specs.Drawings.{drawn_of}
 use Rattle.papergrid_text.specs.Transfer.{IsTaken}
 use Rattle.papergrid_draw.proofs.CountLemmas.{whole-count}
+use Rattle.papergrid_draw.proofs.DeliveryLemmas.{begun-drawable}
 use Rattle.papergrid_draw.proofs.SinkLemmas.{cut-off-after, taken-more}
 use Rattle.papergrid_draw.proofs.LinedLemmas.{lined-begun, lined-last, lined-none, lined-some}
 use Rattle.papergrid_draw.proofs.lines.draw_lines.Goals as goal
+
+pub returns-in_err-draw_cells-clause-drawable : goal.returns-in_err-draw_cells-clause-drawable
+returns-in_err-draw_cells-clause-drawable g c =
+    let p = err_from_is_err_and c.from_residual.result c.from_residual.ensures.1 in
+    rw (p.1, p.2) (elim c.in_err-draw_cells.ensures.drawable [
+      | inl drawable ↦ inl drawable
+      | inr none ↦ inr (none.0, cc (none.1), none.2, none.3)
+    ])
+
+pub returns-then-not-has_lines-clause-drawable : goal.returns-then-not-has_lines-clause-drawable
+returns-then-not-has_lines-clause-drawable g c = inl (begun-drawable _ _ _ _ c.in_ok-draw_cells.ensures.drawable)
+
+pub returns-in-Ok-clause-drawable : goal.returns-in-Ok-clause-drawable
+returns-in-Ok-clause-drawable g c = inl (begun-drawable _ _ _ _ c.in_ok-draw_cells.ensures.drawable)
+
+pub returns-in-Err-clause-drawable : goal.returns-in-Err-clause-drawable
+returns-in-Err-clause-drawable g c = inl (begun-drawable _ _ _ _ c.in_ok-draw_cells.ensures.drawable)
 
 pub returns-in_err-draw_cells-clause-left : goal.returns-in_err-draw_cells-clause-left
 returns-in_err-draw_cells-clause-left g c =

@@ -1,4 +1,4 @@
-use Rattle.std.proofs.Common.{ap, subst, sym}
+use Rattle.std.proofs.Common.{◌≢◌, ap, length, subst, sym}
 use Rattle.std.specs.List.{join_with_byte}
 use Rattle.std.proofs.lemmas.Result.{err_from_is_err_and}
 use Rattle.papergrid_config.specs.Grids.{spanned_grid}
@@ -28,8 +28,10 @@ pub new-requires : goal.new-requires
 new-requires g c = c.in_ok-check_tiles.ensures.ok (view_of c.args.table.now) (ap spanned_grid (sym c.config.ensures)) (sym c.shape.ensures)
 
 pub draw_tiled-requires : goal.draw_tiled-requires
-draw_tiled-requires g c = λ known.
-    subst (λ (t : TableParts). AllHaveRoom (drawn_of g.S.Cells.lines g.S.Cells.color t c.args.cells.now)) (sym c.in_ok-frame.ensures) (c.requires known)
+draw_tiled-requires g c = record {
+  some = subst (λ (t : TableParts). (length t.heights ≢ 0) × (length t.widths ≢ 0)) (sym c.in_ok-frame.ensures) c.requires.some;
+  room = λ known. subst (λ (t : TableParts). AllHaveRoom (drawn_of g.S.Cells.lines g.S.Cells.color t c.args.cells.now)) (sym c.in_ok-frame.ensures) (c.requires.room known);
+}
 
 pub returns : goal.returns
 returns g c =

@@ -28,4 +28,4 @@ returns g c =
     let is = drawing-by document c.args.sizing config c.as_slice.result.now c.in_ok-table.table c.as_slice.ensures.value c.in_ok-table.ensures in
     draws-so g.W.Sink.contents g.W.Sink.has_failed g.W.Sink.has_stalled (IsDocumentDrawingWith document c.args.sizing config) (IsDocumentFaultWith document c.args.sizing config) lined
     _ is (λ e fault. Undrawn _ is fault)
-    c.args.sink.now c.draw_lines.new.sink c.draw_lines.result c.draw_lines.ensures.picture c.draw_lines.ensures.fault c.draw_lines.ensures.left
+    c.args.sink.now c.draw_lines.new.sink c.draw_lines.result c.draw_lines.ensures.drawable c.draw_lines.ensures.picture c.draw_lines.ensures.fault c.draw_lines.ensures.left

@@ -9,7 +9,7 @@ use Rattle.papergrid_script.specs.Grammar.{number_said, position_said, position_
 use Rattle.papergrid_script.specs.Scripts.{table_of}
 use Rattle.papergrid_script.specs.Estimates.{estimate_by}
 use Rattle.papergrid_script.proofs.ListedLemmas.{worked}
-use Rattle.papergrid_script.proofs.laws.worked_rows.Goals as goal
+use Rattle.papergrid_script.proofs.worked.worked_rows.Goals as goal
 
 pub returns : goal.returns
 unfolding table_of script_lines line_says text_says keyword_says keyword_setting number_and_character character_of padding_of sides_of entity_said position_and_count position_said number_said unescaped chars is_utf8 encode estimate_by str_width step past_emoji digits
