@@ -52,7 +52,7 @@ pub fn equal_where_same()
         ↔ (x ≡ y) }
 {}
 
-/// The bytes of a script have one output. A run that draws their table ends in one way, and writes one text.
+/// The bytes of a script have no two outputs. Runs that draw their table end in one way, and write one text.
 pub fn one_output()
     ensures { (sizing : Sizing) (input : List ℕ) (end other : RunEnd) (output bytes : List ℕ) →
         IsPictureRun sizing input end output → IsPictureRun sizing input other bytes →

@@ -34,7 +34,7 @@ pub fn csv_drawable()
         IsCsvDrawing request input d → IsDrawable d }
 {}
 
-/// A CSV text has one run, by a request that does not fit crossings to spans. It ends in one way, and one output is written.
+/// A CSV text has no two runs, by a request that does not fit crossings to spans. They end in one way, and write one output.
 pub fn one_run()
     ensures { (request : Request) (input : List ℕ) (end other : CsvEnd) (output bytes : List ℕ) →
         request.junctions ≡ None → IsCsvRun request input end output →

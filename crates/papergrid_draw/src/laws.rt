@@ -214,7 +214,7 @@ pub fn margins_in_place()
         printed_lines d ≡ map line_bytes (drawn_lines d) }
 {}
 
-/// A table is drawn, or there is one reason why it is not, and never both.
+/// A table that can be drawn has no reason not to be drawn, and another one has no two reasons.
 pub fn one_answer()
     ensures drawn { (d : Drawing) (e : DrawError) →
         IsDrawable d → IsRefusal e → IsDrawFault d e → ⊥ }
@@ -222,8 +222,8 @@ pub fn one_answer()
         IsDrawFault d e → IsDrawFault d f → e ≡ f }
 {}
 
-/// Settings and texts have one picture, or there is one reason why they have none, and never both, whatever configuration
-/// the settings make.
+/// Settings and texts have no two pictures, no two reasons why they have none, and never both, whatever configuration the
+/// settings make.
 pub fn one_picture()
     ensures pictures { (columns : ℕ) (texts : List (List (List ℕ))) (sizing : Sizing)
         (settings : List Setting) (d e : Drawing) →
