@@ -83,33 +83,26 @@ pub picture-run-of : (sizing : Sizing) (input : List ℕ) (told : Result Table �
 unfolding IsPictureRun
 picture-run-of sizing input told is end output so = subst (λ t. IsPictureOf sizing t end output) (sym is) so
 
--- the table of a script has one output, where it has one picture or one reason why it has none
-module _ (sizing : Sizing) where
-  one-table-output : (table : Table) → ((d e : Drawing) → IsDrawingBy table.columns table.rows sizing table.settings d → IsDrawingBy table.columns table.rows sizing table.settings e → lined d ≡ lined e) →
-      ((d : Drawing) (e : DrawError) → IsDrawingBy table.columns table.rows sizing table.settings d → IsDrawable d → IsRefusal e → IsPictureFault table.columns table.rows sizing table.settings e → ⊥) →
-      ((e f : DrawError) → IsRefusal e → IsRefusal f → IsPictureFault table.columns table.rows sizing table.settings e → IsPictureFault table.columns table.rows sizing table.settings f → e ≡ f) →
-      (end other : RunEnd) (output bytes : List ℕ) → IsTablePicture sizing table end output → IsTablePicture sizing table other bytes → (end ≡ other) × (output ≡ bytes)
-  one-table-output table pictures drawn refused Done Done output bytes a b = (refl, a.3 ∙ pictures a.0 b.0 a.1 b.1 ∙ sym b.3)
-  one-table-output table pictures drawn refused Done Refused output bytes a b = absurd (drawn a.0 b.0 a.1 a.2 b.1 b.2)
-  one-table-output table pictures drawn refused Refused Done output bytes a b = absurd (drawn b.0 a.0 b.1 b.2 a.1 a.2)
-  one-table-output table pictures drawn refused Refused Refused output bytes a b = (refl, a.3 ∙ ap refusal_line (refused a.0 b.0 a.1 b.1 a.2 b.2) ∙ sym b.3)
-  one-table-output table pictures drawn refused BadScript other output bytes a b = absurd a
-  one-table-output table pictures drawn refused end BadScript output bytes a b = absurd b
+-- a script has no two outputs, where settings and texts have no two pictures, no two reasons why they have none, and never both
+module _ (sizing : Sizing)
+    (pictures : (columns : ℕ) (texts : List (List (List ℕ))) (settings : List Setting) (d e : Drawing) → IsDrawingBy columns texts sizing settings d → IsDrawingBy columns texts sizing settings e → lined d ≡ lined e)
+    (drawn : (columns : ℕ) (texts : List (List (List ℕ))) (settings : List Setting) (d : Drawing) (e : DrawError) → IsDrawingBy columns texts sizing settings d → IsDrawable d → IsRefusal e → IsPictureFault columns texts sizing settings e → ⊥)
+    (refused : (columns : ℕ) (texts : List (List (List ℕ))) (settings : List Setting) (e f : DrawError) → IsRefusal e → IsRefusal f → IsPictureFault columns texts sizing settings e → IsPictureFault columns texts sizing settings f → e ≡ f) where
+  one-table-output : (table : Table) (end other : RunEnd) (output bytes : List ℕ) → IsTablePicture sizing table end output → IsTablePicture sizing table other bytes → (end ≡ other) × (output ≡ bytes)
+  one-table-output table Done Done output bytes a b = (refl, a.3 ∙ pictures table.columns table.rows table.settings a.0 b.0 a.1 b.1 ∙ sym b.3)
+  one-table-output table Done Refused output bytes a b = absurd (drawn table.columns table.rows table.settings a.0 b.0 a.1 a.2 b.1 b.2)
+  one-table-output table Refused Done output bytes a b = absurd (drawn table.columns table.rows table.settings b.0 a.0 b.1 b.2 a.1 a.2)
+  one-table-output table Refused Refused output bytes a b = (refl, a.3 ∙ ap refusal_line (refused table.columns table.rows table.settings a.0 b.0 a.1 b.1 a.2 b.2) ∙ sym b.3)
+  one-table-output table BadScript other output bytes a b = absurd a
+  one-table-output table end BadScript output bytes a b = absurd b
 
-  one-output-of : (told : Result Table ℕ) → ((columns : ℕ) (texts : List (List (List ℕ))) (settings : List Setting) (d e : Drawing) → IsDrawingBy columns texts sizing settings d → IsDrawingBy columns texts sizing settings e → lined d ≡ lined e) →
-      ((columns : ℕ) (texts : List (List (List ℕ))) (settings : List Setting) (d : Drawing) (e : DrawError) → IsDrawingBy columns texts sizing settings d → IsDrawable d → IsRefusal e → IsPictureFault columns texts sizing settings e → ⊥) →
-      ((columns : ℕ) (texts : List (List (List ℕ))) (settings : List Setting) (e f : DrawError) → IsRefusal e → IsRefusal f → IsPictureFault columns texts sizing settings e → IsPictureFault columns texts sizing settings f → e ≡ f) →
-      (end other : RunEnd) (output bytes : List ℕ) → IsPictureOf sizing told end output → IsPictureOf sizing told other bytes → (end ≡ other) × (output ≡ bytes)
-  one-output-of (Ok table) pictures drawn refused end other output bytes a b =
-      one-table-output table (pictures table.columns table.rows table.settings) (drawn table.columns table.rows table.settings) (refused table.columns table.rows table.settings) end other output bytes a b
-  one-output-of (Err number) pictures drawn refused end other output bytes a b = (a.0 ∙ sym b.0, a.1 ∙ sym b.1)
+  one-output-of : (told : Result Table ℕ) (end other : RunEnd) (output bytes : List ℕ) → IsPictureOf sizing told end output → IsPictureOf sizing told other bytes → (end ≡ other) × (output ≡ bytes)
+  one-output-of (Ok table) end other output bytes a b = one-table-output table end other output bytes a b
+  one-output-of (Err number) end other output bytes a b = (a.0 ∙ sym b.0, a.1 ∙ sym b.1)
 
-  pub one-output : ((columns : ℕ) (texts : List (List (List ℕ))) (settings : List Setting) (d e : Drawing) → IsDrawingBy columns texts sizing settings d → IsDrawingBy columns texts sizing settings e → lined d ≡ lined e) →
-      ((columns : ℕ) (texts : List (List (List ℕ))) (settings : List Setting) (d : Drawing) (e : DrawError) → IsDrawingBy columns texts sizing settings d → IsDrawable d → IsRefusal e → IsPictureFault columns texts sizing settings e → ⊥) →
-      ((columns : ℕ) (texts : List (List (List ℕ))) (settings : List Setting) (e f : DrawError) → IsRefusal e → IsRefusal f → IsPictureFault columns texts sizing settings e → IsPictureFault columns texts sizing settings f → e ≡ f) →
-      (input : List ℕ) (end other : RunEnd) (output bytes : List ℕ) → IsPictureRun sizing input end output → IsPictureRun sizing input other bytes → (end ≡ other) × (output ≡ bytes)
+  pub one-output : (input : List ℕ) (end other : RunEnd) (output bytes : List ℕ) → IsPictureRun sizing input end output → IsPictureRun sizing input other bytes → (end ≡ other) × (output ≡ bytes)
   unfolding IsPictureRun
-  one-output pictures drawn refused input = one-output-of (table_of input) pictures drawn refused
+  one-output input = one-output-of (table_of input)
 
 -- a reader and a writer, by what they tell, and the input that a run kept in place of another one
 module _ {R W : Type 0} (remaining : R → Option (List ℕ)) (read_failed : R → Bool) (contents : W → Option (List ℕ)) (has_failed has_stalled : W → Bool)

@@ -1,5 +1,5 @@
 -- A text whose crossings are not fitted has one run.
-use Rattle.std.proofs.Common.{◌≡◌, ◌⊎◌, ◌∙◌, ◌^◌, ◌<◌, ◌≤◌, ◌++◌, ℕ, List, [], Option, None, Some, ap, append-nil, arith, flat_map, inl, inr, length, refl, reverse, subst, sym}
+use Rattle.std.proofs.Common.{◌≡◌, ◌⊎◌, ◌∙◌, ◌^◌, ◌<◌, ◌≤◌, ◌++◌, ℕ, List, [], Option, None, Some, ap, append-nil, arith, inl, inr, length, refl, reverse, subst, sym}
 use Rattle.std.specs.Prelude.{slice_index}
 use Rattle.papergrid_values.specs.Compact.{all_sides, spaces}
 use Rattle.papergrid_values.specs.declared.direction.Direction.{Direction}
@@ -23,7 +23,6 @@ use Rattle.papergrid_draw.specs.Lined.{lined}
 use Rattle.papergrid_draw.specs.Margins.{whole_width}
 use Rattle.papergrid_draw.specs.Pictures.{IsDrawingWith, IsFaultWith, texts_drawing}
 use Rattle.papergrid_draw.specs.Tiles.{IsTiled}
-use Rattle.papergrid_draw.specs.declared.crossings.Junctions.{Junctions}
 use Rattle.papergrid_draw.specs.declared.error.DrawError.{DrawError}
 use Rattle.papergrid_draw.proofs.OneLemmas.{drawn-or-faulty, one-drawn, one-fault, one-layout}
 use Rattle.papergrid_draw.proofs.PictureLemmas.{room-with}
@@ -35,15 +34,10 @@ use Rattle.papergrid_csv.specs.declared.request.Request.{Request}
 use Rattle.papergrid_csv.specs.declared.run.CsvEnd.{CsvEnd}
 use Rattle.papergrid_csv.specs.declared.run.CsvEnd.TheVariants.{Drawn, Hides, NoColumn, NotText, Ragged, Refused, TooWide, Unclosed}
 use Rattle.papergrid_csv.proofs.OneTextLemmas.{hidden-or-no-column, one-hidden, one-no-column, one-table, one-unread, rows-or-unread, table-or-hidden, table-or-no-column}
-use Rattle.papergrid_csv.proofs.PartLemmas.{crossings-none, no-margins}
+use Rattle.papergrid_csv.proofs.PartLemmas.{fitted-none, no-margins}
 use Rattle.papergrid_csv.proofs.WideLemmas.{both-fit as both-fit-tracks}
 
 -- ---- the drawing of a text can be drawn
-
-fitted-no-margins : (junctions : Option Junctions) (settings : List Setting) (shape : ℕ × ℕ) (config : SpannedConfig) (fitted : List Setting) → AreFitted junctions settings shape config fitted →
-    flat_map margins fitted ≡ []
-fitted-no-margins None settings shape config fitted are = ap (flat_map margins) are
-fitted-no-margins (Some junctions) settings shape config fitted are = crossings-none margins (λ _ _. refl) are.0 shape junctions fitted are.2.corners
 
 -- totals of sizes that are found fit
 totals-fit : (config : SpannedConfig) (columns : ℕ) (texts : List (List (List ℕ))) (sizing : Sizing) (widths heights : List ℕ) → AreBothSizes (spanned_grid config) text_measure columns texts sizing widths heights →
@@ -63,7 +57,7 @@ module _ (request : Request) (input : List ℕ) (d : Drawing) (so : IsCsvDrawing
   margin : so.config.margin ≡ all_sides (spaces 0)
   margin = so.configured.told.told.margin
       ∙ ap (λ values. newest_or (all_sides (spaces 0)) (reverse values))
-      (no-margins request so.table.columns so.table.rows so.configured.fitted (fitted-no-margins request.junctions (table_settings so.table) (table_shape so.table) so.config so.configured.fitted so.configured.fit))
+      (no-margins request so.table.columns so.table.rows so.configured.fitted (fitted-none margins (λ _ _. refl) request.junctions (table_settings so.table) (table_shape so.table) so.config so.configured.fitted so.configured.fit))
 
   fits : (direction : Direction) → total_along (layout_of it) direction < 2 ^ 64
   fits = totals-fit so.config so.table.columns so.table.shown request.sizing so.drawn.widths so.drawn.heights so.drawn.sized

@@ -21,6 +21,7 @@ use Rattle.papergrid_tables.specs.BorderCalls as lines
 use Rattle.papergrid_tables.specs.Made.{borders_made}
 use Rattle.papergrid_draw.specs.Crossings.{SetsCrossing, corner_border}
 use Rattle.papergrid_draw.specs.declared.crossings.Junctions.{Junctions}
+use Rattle.papergrid_csv.specs.Pictures.{AreFitted}
 use Rattle.papergrid_csv.specs.Requests.{head_line, settings_of, span_settings}
 use Rattle.papergrid_csv.specs.declared.request.Request.{Request}
 use Rattle.papergrid_csv.proofs.RequestLemmas.{others, others-all, spans-all}
@@ -32,13 +33,19 @@ none-made part (s ∷ settings) all =
     rw first (none-made part settings (All-tail (λ s. part s ≡ []) s settings all))
 
 -- settings of crossings make nothing of a part that borders of cells are not of
-pub crossings-none : {X : Type 0} (part : Setting → List X) → ((p : Position) (b : Border ℕ) → part (SetBorder p b) ≡ []) → (config : SpannedConfig) (shape : ℕ × ℕ) (junctions : Junctions) (fitted : List Setting) →
+crossings-none : {X : Type 0} (part : Setting → List X) → ((p : Position) (b : Border ℕ) → part (SetBorder p b) ≡ []) → (config : SpannedConfig) (shape : ℕ × ℕ) (junctions : Junctions) (fitted : List Setting) →
     All (SetsCrossing config shape junctions) fitted → flat_map part fitted ≡ []
 crossings-none part none config shape junctions [] all = refl
 crossings-none part none config shape junctions (s ∷ fitted) all =
     let sets = All-head (SetsCrossing config shape junctions) s fitted all in
     let first : part s ≡ [] = ap part sets.2 ∙ none sets.0 (corner_border sets.1) in
     rw first (crossings-none part none config shape junctions fitted (All-tail (SetsCrossing config shape junctions) s fitted all))
+
+-- nor do settings that fit crossings, if there are any
+pub fitted-none : {X : Type 0} (part : Setting → List X) → ((p : Position) (b : Border ℕ) → part (SetBorder p b) ≡ []) → (junctions : Option Junctions) (settings : List Setting) (shape : ℕ × ℕ) (config : SpannedConfig) (fitted : List Setting) →
+    AreFitted junctions settings shape config fitted → flat_map part fitted ≡ []
+fitted-none part none None settings shape config fitted are = ap (flat_map part) are
+fitted-none part none (Some junctions) settings shape config fitted are = crossings-none part none are.0 shape junctions fitted are.2.corners
 
 module _ {X : Type 0} (part : Setting → List X) (request : Request) (columns : ℕ) (rows : List (List (List ℕ)))
     (none : flat_map part (others request columns rows) ≡ []) where
@@ -75,13 +82,18 @@ module _ (request : Request) (columns : ℕ) (rows : List (List (List ℕ))) whe
       subst (λ l. All (λ s. span_calls s ≡ []) (flat_map span_settings l)) (sym empty) (All-nil (λ s. span_calls s ≡ [])) in
       parts-are span_calls request columns rows (others-none span_calls (λ _ _. refl) (λ _ _. refl) spans) ∙ rw head refl
 
+  -- further settings that make nothing of a part leave it
+  with-fitted : {X : Type 0} (part : Setting → List X) (fitted : List Setting) → flat_map part fitted ≡ [] → flat_map part (settings_of request columns rows ++ fitted) ≡ flat_map part (settings_of request columns rows)
+  with-fitted part fitted none =
+      flat_map-append part (settings_of request columns rows) fitted
+      ∙ ap (λ l. flat_map part (settings_of request columns rows) ++ l) none
+      ∙ append-nil (flat_map part (settings_of request columns rows))
+
   -- no margins are
   pub no-margins : (fitted : List Setting) → flat_map margins fitted ≡ [] → flat_map margins (settings_of request columns rows ++ fitted) ≡ []
   no-margins fitted none =
       let head = head-none margins (λ _ _. refl) request.head in
-      flat_map-append margins (settings_of request columns rows) fitted
-      ∙ ap (λ l. flat_map margins (settings_of request columns rows) ++ l) none
-      ∙ append-nil (flat_map margins (settings_of request columns rows))
+      with-fitted margins fitted none
       ∙ parts-are margins request columns rows (others-none margins (λ _ _. refl) (λ _ _. refl) (spans-all (λ s. margins s ≡ []) (λ _ _. refl) (λ _ _. refl) request.spans.items)) ∙ rw head refl
 
   -- one padding is
@@ -92,9 +104,7 @@ module _ (request : Request) (columns : ℕ) (rows : List (List (List ℕ))) whe
 
   pub padding-of : (fitted : List Setting) → flat_map padding_calls fitted ≡ [] → (p : Position) → effective.padding (settings_of request columns rows ++ fitted) p ≡ request.padding
   padding-of fitted none p =
-      let are : flat_map padding_calls (settings_of request columns rows ++ fitted) ≡ Insert Global request.padding ∷ [] =
-      flat_map-append padding_calls (settings_of request columns rows) fitted ∙ ap (λ l. flat_map padding_calls (settings_of request columns rows) ++ l) none
-      ∙ append-nil (flat_map padding_calls (settings_of request columns rows)) ∙ paddings-are in
+      let are : flat_map padding_calls (settings_of request columns rows ++ fitted) ≡ Insert Global request.padding ∷ [] = with-fitted padding_calls fitted none ∙ paddings-are in
       rw are refl
 
   -- the frame stays

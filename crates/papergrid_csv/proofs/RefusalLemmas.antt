@@ -12,7 +12,6 @@ use Rattle.papergrid_tracks.specs.declared.error.LayoutError.{LayoutError}
 use Rattle.papergrid_tracks.specs.declared.error.LayoutError.TheVariants as layout_errors
 use Rattle.papergrid_walk.specs.Cells.{placed_from, placed_row, positioned_cells, visible_cells}
 use Rattle.papergrid_config.specs.Parts.{span_calls}
-use Rattle.papergrid_config.specs.declared.setting.Setting.{Setting}
 use Rattle.papergrid_config.specs.Grids.{spanned_grid}
 use Rattle.papergrid_config.specs.declared.spanned.SpannedConfig.{SpannedConfig}
 use Rattle.papergrid_layout.specs.Answers.{IsBothRefused, first_out_of_table, overflows}
@@ -29,11 +28,11 @@ use Rattle.papergrid_draw.specs.declared.crossings.Junctions.{Junctions}
 use Rattle.papergrid_walk.specs.Measures.{text_measure}
 use Rattle.papergrid_draw.specs.Sinks.{IsRefusal}
 use Rattle.papergrid_draw.specs.Pictures.{IsFaultWith, Undrawn, Unsized, texts_drawing}
-use Rattle.papergrid_csv.specs.Pictures.{AreFitted, Faulty, IsCsvRefused, IsUnfitted, IsUnpictured, Unfitted}
+use Rattle.papergrid_csv.specs.Pictures.{Faulty, IsCsvRefused, IsUnfitted, IsUnpictured, Unfitted}
 use Rattle.papergrid_csv.specs.Requests.{settings_of}
 use Rattle.papergrid_csv.specs.declared.request.Request.{Request}
 use Rattle.papergrid_csv.proofs.CutTextLemmas.{shown-full}
-use Rattle.papergrid_csv.proofs.PartLemmas.{crossings-none, no-spans}
+use Rattle.papergrid_csv.proofs.PartLemmas.{fitted-none, no-spans}
 use Rattle.papergrid_csv.proofs.RowLemmas.{rows-full}
 use Rattle.papergrid_csv.proofs.TableLemmas.{HasNoSpans, none-spanned, tiled}
 use Rattle.papergrid_draw.proofs.PictureLemmas.{room-with}
@@ -101,11 +100,6 @@ unfitted-large plain shape spans draw_errors.TooLarge fault named = refl
 unfitted-large plain shape spans (draw_errors.Memory error) fault named = absurd named
 unfitted-large plain shape spans draw_errors.Write fault named = absurd fault
 
--- settings that fit crossings make no spans
-fitted-no-spans : (junctions : Option Junctions) (settings : List Setting) (shape : ℕ × ℕ) (config : SpannedConfig) (fitted : List Setting) → AreFitted junctions settings shape config fitted → flat_map span_calls fitted ≡ []
-fitted-no-spans None settings shape config fitted are = ap (flat_map span_calls) are
-fitted-no-spans (Some junctions) settings shape config fitted are = crossings-none span_calls (λ _ _. refl) are.0 shape junctions fitted are.2.corners
-
 module _ (request : Request) (empty : request.spans.items ≡ []) (columns : ℕ) (rows shown : List (List (List ℕ))) (full : All (λ row. length row ≡ columns) shown) where
   unsized-large : (config : SpannedConfig) → HasNoSpans (spanned_grid config) → (e : DrawError) → IsRefusal e → (error : LayoutError) → e ≡ draw_error_of error →
       IsBothRefused (spanned_grid config) text_measure columns shown request.sizing error → e ≡ draw_errors.TooLarge
@@ -132,7 +126,7 @@ module _ (request : Request) (empty : request.spans.items ≡ []) (columns : ℕ
       let settings = settings_of request columns rows in
       let none : flat_map span_calls (settings ++ configured.fitted) ≡ [] =
       flat_map-append span_calls settings configured.fitted
-      ∙ ap (λ l. flat_map span_calls settings ++ l) (fitted-no-spans request.junctions settings shape config configured.fitted configured.fit)
+      ∙ ap (λ l. flat_map span_calls settings ++ l) (fitted-none span_calls (λ _ _. refl) request.junctions settings shape config configured.fitted configured.fit)
       ∙ append-nil (flat_map span_calls settings) ∙ no-spans request columns rows empty in
       faulty-large config (none-spanned (settings ++ configured.fitted) config none configured.told.effective.spans) e named fault
 

@@ -1,5 +1,5 @@
 -- Each line of the picture of a CSV text is as wide as its table.
-use Rattle.std.proofs.Common.{◌≡◌, ◌∙◌, ◌⊎◌, ◌<◌, ◌++◌, ℕ, true, List, [], All, Option, None, Some, ap, append-nil, flat_map, inl, inr, length, refl, subst, sym}
+use Rattle.std.proofs.Common.{◌≡◌, ◌∙◌, ◌⊎◌, ◌<◌, ◌++◌, ℕ, true, List, [], All, Option, None, Some, ap, append-nil, inl, inr, length, refl, subst, sym}
 use Rattle.std.specs.Prelude.{IsSome, IsUtf8}
 use Rattle.std.specs.List.{list_all}
 use Rattle.std.proofs.lemmas.List.Folds.{list_all-append}
@@ -33,7 +33,7 @@ use Rattle.papergrid_csv.specs.Pictures.{AreFitted, IsCsvDrawing, table_settings
 use Rattle.papergrid_csv.specs.Requests.{IsSeparating, settings_of}
 use Rattle.papergrid_csv.specs.declared.request.Request.{Request}
 use Rattle.papergrid_csv.proofs.CutTextLemmas.{shown-length, shown-utf8}
-use Rattle.papergrid_csv.proofs.PartLemmas.{crossings-none, frame-of, padding-of}
+use Rattle.papergrid_csv.proofs.PartLemmas.{fitted-none, frame-of, padding-of}
 use Rattle.papergrid_csv.proofs.RowLemmas.{all-utf8}
 use Rattle.papergrid_csv.proofs.SeparatingLemmas.{fitted-separate, settings-separate}
 use Rattle.papergrid_csv.proofs.TableLemmas.{line-between}
@@ -52,12 +52,6 @@ both-fit config columns rows Least widths heights are = record { across = are.wi
 -- fields at positions are texts where all are
 at-position : (rows : List (List (List ℕ))) → All (All IsUtf8) rows → (p : Position) (cell : List ℕ) → IsCellAt rows p cell → IsUtf8 cell
 at-position rows all p cell is = subst IsUtf8 is.1.1 (all p.row [] is.0 p.col cell is.1.0)
-
--- settings that fit crossings make no paddings
-fitted-no-paddings : (junctions : Option Junctions) (settings : List Setting) (shape : ℕ × ℕ) (config : SpannedConfig) (fitted : List Setting) → AreFitted junctions settings shape config fitted →
-    flat_map padding_calls fitted ≡ []
-fitted-no-paddings None settings shape config fitted are = ap (flat_map padding_calls) are
-fitted-no-paddings (Some junctions) settings shape config fitted are = crossings-none padding_calls (λ _ _. refl) are.0 shape junctions fitted are.2.corners
 
 -- a vertical line of the frame stands between columns, whatever crossings were fitted
 vertical-stays : (request : Request) (columns : ℕ) (rows : List (List (List ℕ))) (junctions : Option Junctions) (shape : ℕ × ℕ) (config : SpannedConfig) (fitted : List Setting) →
@@ -94,7 +88,7 @@ module _ (request : Request) (input : List ℕ) (d : Drawing) (so : IsCsvDrawing
       p.col above is.col_in))
   apart (inr padded) = inl (λ p is above.
       inr (subst (λ n. 0 < n) (sym (ap (λ s. s.left.size) (so.configured.told.effective.padding p
-      ∙ padding-of request so.table.columns so.table.rows fitted (fitted-no-paddings request.junctions settings (table_shape so.table) so.config fitted so.configured.fit) p))) padded))
+      ∙ padding-of request so.table.columns so.table.rows fitted (fitted-none padding_calls (λ _ _. refl) request.junctions settings (table_shape so.table) so.config fitted so.configured.fit) p))) padded))
 
   pub csv-wide : IsSeparating request → (IsSome request.frame.vertical) ⊎ (0 < request.padding.left.size) →
       All (λ line. width_of (pieces_text (pieces_of line)) ≡ total_along (layout_of d) Columns) (drawn_lines d)
