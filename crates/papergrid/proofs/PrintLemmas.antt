@@ -18,7 +18,7 @@ use Rattle.papergrid_draw.specs.declared.error.DrawError.{DrawError}
 use Rattle.papergrid_draw.specs.declared.error.DrawError.TheVariants.{Write}
 use Rattle.papergrid_draw.proofs.DeliveryLemmas.{begun-drawable, string-drawn}
 use Rattle.papergrid_draw.proofs.SinkLemmas.{sink-left, taken-calls}
-use Rattle.papergrid.specs.Printed.{IsPrintFault, IsUnprinted, Prints, PrintsString}
+use Rattle.papergrid.specs.Printed.{IsPrintFault, IsPrinted, IsUnprinted, Prints, PrintsString}
 
 -- by the relations of texts that a writer takes and of one that breaks off
 module _ {W : Type 0} (takes breaks : W → List ℕ → W → Type 0) where
@@ -29,11 +29,11 @@ module _ {W : Type 0} (takes breaks : W → List ℕ → W → Type 0) where
   -- this one is drawn
   pub prints-so : (d : Drawing) → (IsTotalTooLarge (layout_of d) → ⊥) → {A : Type 0} (old new : W) (result : Result A DrawError) → Draws takes breaks d old new (printed d) result →
       Prints (λ other. other ≡ d) takes breaks old new result
-  prints-so d fits old new (Ok x) draws = (d, refl, begun-drawable d old new (Ok x) draws.drawable, draws.picture)
+  prints-so d fits old new (Ok x) draws = (d, (refl, fits), begun-drawable d old new (Ok x) draws.drawable, draws.picture)
   prints-so d fits old new (Err e) draws = record {
     fault = λ named. (d, refl, inr (fits, draws.fault));
     left = elim draws.drawable [
-      | inl drawable ↦ inr (d, refl, drawable, draws.left)
+      | inl drawable ↦ inr (d, (refl, fits), drawable, draws.left)
       | inr none ↦ inl ((λ write. none.2 (cc (none.1, write))), none.3)
     ];
   }
@@ -41,10 +41,10 @@ module _ {W : Type 0} (takes breaks : W → List ℕ → W → Type 0) where
   -- what follows of the drawing
   pub prints-also : (IsDrawn IsSo : Drawing → Type 0) → ((d : Drawing) → IsDrawn d → IsSo d) → {A : Type 0} (old new : W) (result : Result A DrawError) →
       Prints IsDrawn takes breaks old new result → Prints IsSo takes breaks old new result
-  prints-also IsDrawn IsSo also old new (Ok x) p = (p.0, also p.0 p.1, p.2, p.3)
+  prints-also IsDrawn IsSo also old new (Ok x) p = (p.0, (also p.0 p.1.0, p.1.1), p.2, p.3)
   prints-also IsDrawn IsSo also old new (Err e) p = record {
     fault = λ named. let fault = p.fault named in (fault.0, also fault.0 fault.1, fault.2);
-    left = elim p.left [ inl same ↦ inl same | inr so ↦ inr (so.0, also so.0 so.1, so.2, so.3) ];
+    left = elim p.left [ inl same ↦ inl same | inr so ↦ inr (so.0, (also so.0 so.1.0, so.1.1), so.2, so.3) ];
   }
 
 -- the totals of a table are too large, so there is none
@@ -57,7 +57,7 @@ sizes-refused lines color parts cells (layout_errors.Memory e) is named = absurd
 -- a sink, by what it tells of itself
 pub sink-prints : (IsDrawn : Drawing → Type 0) {W : Type 0} (contents : W → Option (List ℕ)) (has_failed has_stalled : W → Bool) {A : Type 0} (old new : W) (result : Result A DrawError) →
     Prints IsDrawn (IsTaken contents has_failed has_stalled) (IsBroken contents has_failed has_stalled) old new result →
-    WritesPicture contents has_failed has_stalled IsDrawn (IsPrintFault IsDrawn) printed old new result
+    WritesPicture contents has_failed has_stalled (IsPrinted IsDrawn) (IsPrintFault IsDrawn) printed old new result
 sink-prints IsDrawn contents has_failed has_stalled old new (Ok x) p = (p.0, p.1, p.2, taken-calls contents has_failed has_stalled old (printed p.0) new p.3)
 sink-prints IsDrawn contents has_failed has_stalled {A = A} old new (Err e) p = record {
   fault = p.fault;
@@ -76,9 +76,9 @@ pub string-prints : (IsDrawn : Drawing → Type 0) (breaks : String Global → L
     (drawn : Result A DrawError) → Prints IsDrawn (λ before bytes after. string_bytes after ≡ string_bytes before ++ bytes) breaks empty text drawn →
     (result : Result (String Global) DrawError) → IsStringOf text drawn result → PrintsString IsDrawn result
 string-prints IsDrawn breaks {A = A} empty text none (Ok x) p result is =
-    string-drawn {A = A} text (λ string. (d : Drawing) × IsDrawn d × IsDrawable d × (string_bytes string ≡ printed d)) (λ e. (IsRefusal e → IsPrintFault IsDrawn e) × (e ≢ Write)) (Ok x) result is
+    string-drawn {A = A} text (λ string. (d : Drawing) × IsPrinted IsDrawn d × IsDrawable d × (string_bytes string ≡ printed d)) (λ e. (IsRefusal e → IsPrintFault IsDrawn e) × (e ≢ Write)) (Ok x) result is
     (p.0, p.1, p.2, contents_after_writes (λ before bytes after. string_bytes after ≡ string_bytes before ++ bytes) string_bytes (λ before bytes after so. so) empty (printed p.0) text p.3 ∙ ap (λ l. l ++ printed p.0) none)
     tt (λ error. (λ named. absurd named, λ write. cc write))
 string-prints IsDrawn breaks {A = A} empty text none (Err e) p result is =
-    string-drawn {A = A} text (λ string. (d : Drawing) × IsDrawn d × IsDrawable d × (string_bytes string ≡ printed d)) (λ e. (IsRefusal e → IsPrintFault IsDrawn e) × (e ≢ Write)) (Err e) result is
+    string-drawn {A = A} text (λ string. (d : Drawing) × IsPrinted IsDrawn d × IsDrawable d × (string_bytes string ≡ printed d)) (λ e. (IsRefusal e → IsPrintFault IsDrawn e) × (e ≢ Write)) (Err e) result is
     tt (λ works. (p.fault, works)) (λ error. (λ named. absurd named, λ write. cc write))

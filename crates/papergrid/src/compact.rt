@@ -6,7 +6,7 @@ ghost use Rattle.papergrid_draw.specs.Margins.{printed};
 ghost use Rattle.papergrid_draw.specs.Sinks.{WritesPicture};
 ghost use Rattle.papergrid_layout.specs.Tables.{HasSizes};
 ghost use Rattle.papergrid.specs.Compact.{IsCompactDrawing};
-ghost use Rattle.papergrid.specs.Printed.{IsPrintFault, Prints, PrintsString};
+ghost use Rattle.papergrid.specs.Printed.{IsPrintFault, IsPrinted, Prints, PrintsString};
 ghost use Rattle.papergrid.specs.Sized.{texts_at};
 
 use crate::equal_rows::compact_table;
@@ -164,8 +164,8 @@ where
             (R.columns self.entry.records) self.entry.config
             (D.width_of self.entry.dimension.now)
             (texts_at C.Color.texts C.color_at self.entry.colors.now) in
-            WritesPicture W.contents W.has_failed W.has_stalled IsDrawn (IsPrintFault IsDrawn)
-            printed sink.old sink.new result }
+            WritesPicture W.contents W.has_failed W.has_stalled
+            (IsPrinted IsDrawn) (IsPrintFault IsDrawn) printed sink.old sink.new result }
     {
         self.print::<ToSink, W>(alloc, sink)
     }

@@ -5,7 +5,7 @@ ghost use Rattle.std.specs.Prelude.{◌≡◌, ⊤, List, length};
 ghost use Rattle.papergrid_draw.specs.Margins.{printed};
 ghost use Rattle.papergrid_draw.specs.Sinks.{WritesPicture};
 ghost use Rattle.papergrid_layout.specs.Tables.{HasSizes};
-ghost use Rattle.papergrid.specs.Printed.{IsPrintFault, Prints, PrintsString};
+ghost use Rattle.papergrid.specs.Printed.{IsPrintFault, IsPrinted, Prints, PrintsString};
 ghost use Rattle.papergrid.specs.Sized.{texts_at};
 ghost use Rattle.papergrid.specs.TextRows.{IsTextDrawing};
 
@@ -150,8 +150,8 @@ where
             (R.columns self.entry.records) self.entry.config.now
             (D.width_of self.entry.dimension.now) (D.height_of self.entry.dimension.now)
             (texts_at C.Color.texts C.color_at self.entry.colors.now) in
-            WritesPicture W.contents W.has_failed W.has_stalled IsDrawn (IsPrintFault IsDrawn)
-            printed sink.old sink.new result }
+            WritesPicture W.contents W.has_failed W.has_stalled
+            (IsPrinted IsDrawn) (IsPrintFault IsDrawn) printed sink.old sink.new result }
     {
         self.print::<ToSink, W>(alloc, sink)
     }

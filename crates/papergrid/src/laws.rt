@@ -13,6 +13,7 @@ ghost use Rattle.papergrid_draw.specs.declared.error.DrawError.{DrawError};
 ghost use Rattle.papergrid_script.specs.declared.answer.RunEnd.{RunEnd};
 ghost use Rattle.papergrid_script.specs.declared.explained.Reason.{Reason};
 ghost use Rattle.papergrid_script.specs.declared.reading.RunFault.{RunFault};
+ghost use Rattle.papergrid_script.specs.declared.script_setting.ScriptSetting.{ScriptSetting};
 ghost use Rattle.papergrid.specs.Compact.{IsCompactDrawing, compact_height, first_text};
 ghost use Rattle.papergrid.specs.Pictures.{IsPictureRun};
 ghost use Rattle.papergrid.specs.Sized.{drawing_of_rows, parts_of};
@@ -27,6 +28,7 @@ pub use papergrid_script::laws::{
     script_by_lines, script_lines_form, script_settings_in_range, worked_rows,
 };
 use papergrid_script::reading::RunFault;
+use papergrid_script::script_setting::ScriptSetting;
 use papergrid_text::transfer::Failed;
 use papergrid_text::{Cell, IntoRecords, Records, Text};
 use std::convert::AsStr;
@@ -39,6 +41,7 @@ pub fn equal_clones()
     ensures fault { (x y : RunFault) → ⟦<RunFault as Clone>⟧.is_clone x y → y ≡ x }
     ensures failed { (x y : Failed) → ⟦<Failed as Clone>⟧.is_clone x y → y ≡ x }
     ensures draw_error { (x y : DrawError) → ⟦<DrawError as Clone>⟧.is_clone x y → y ≡ x }
+    ensures setting { (x y : ScriptSetting) → ⟦<ScriptSetting as Clone>⟧.is_clone x y → y ≡ x }
 {}
 
 /// Values are equal exactly where they are the same.

@@ -7,7 +7,7 @@ ghost use Rattle.papergrid_draw.specs.Drawings.{Drawing};
 ghost use Rattle.papergrid_draw.specs.Margins.{printed};
 ghost use Rattle.papergrid_draw.specs.Sinks.{WritesPicture};
 ghost use Rattle.papergrid_layout.specs.Tables.{HasSizes};
-ghost use Rattle.papergrid.specs.Printed.{IsPrintFault, Prints, PrintsString};
+ghost use Rattle.papergrid.specs.Printed.{IsPrintFault, IsPrinted, Prints, PrintsString};
 ghost use Rattle.papergrid.specs.Sized.{drawing_held, shape_told, texts_at};
 
 use crate::printer::print_sized;
@@ -163,8 +163,8 @@ where
             self.now.config.now
             (D.width_of self.now.dimension.now) (D.height_of self.now.dimension.now)
             self.now.records.now (texts_at C.Color.texts C.color_at self.now.colors.now) in
-            WritesPicture W.contents W.has_failed W.has_stalled IsDrawn (IsPrintFault IsDrawn)
-            printed sink.old sink.new result }
+            WritesPicture W.contents W.has_failed W.has_stalled
+            (IsPrinted IsDrawn) (IsPrintFault IsDrawn) printed sink.old sink.new result }
     {
         self.print::<ToSink, W>(alloc, sink)
     }

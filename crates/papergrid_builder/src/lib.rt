@@ -7,6 +7,7 @@ mod cells;
 mod drawn;
 mod error;
 mod found;
+pub mod laws;
 mod rows;
 
 pub use builder::Builder;

@@ -4,6 +4,7 @@ pub mod CertifyLemmas
 pub mod CutLemmas
 pub mod CutTextLemmas
 pub mod DrawLemmas
+pub mod EqualLemmas
 pub mod EscapeLemmas
 pub mod JudgingLemmas
 pub mod OneRunLemmas

@@ -1,5 +1,5 @@
--- A text whose crossings are not fitted has one run.
-use Rattle.std.proofs.Common.{◌≡◌, ◌⊎◌, ◌∙◌, ◌^◌, ◌<◌, ◌≤◌, ◌++◌, ℕ, List, [], Option, None, Some, ap, append-nil, arith, inl, inr, length, refl, reverse, subst, sym}
+-- A text has one run.
+use Rattle.std.proofs.Common.{◌≡◌, ◌⊎◌, ◌∙◌, ◌^◌, ◌<◌, ◌≤◌, ◌++◌, ℕ, List, Option, None, Some, ap, arith, inl, inr, length, refl, reverse, subst, sym}
 use Rattle.std.specs.Prelude.{slice_index}
 use Rattle.papergrid_values.specs.Compact.{all_sides, spaces}
 use Rattle.papergrid_values.specs.declared.direction.Direction.{Direction}
@@ -9,6 +9,7 @@ use Rattle.papergrid_values.specs.declared.sides.Sides.{Sides}
 use Rattle.papergrid_config.specs.ConfigSame.{HoldTheSameSettings}
 use Rattle.papergrid_config.specs.Grids.{spanned_grid}
 use Rattle.papergrid_config.specs.History.{HasSettingHistory, newest_or}
+use Rattle.papergrid_config.specs.Laws.{IsConfiguredBy}
 use Rattle.papergrid_config.specs.Parts.{margins}
 use Rattle.papergrid_config.specs.declared.setting.Setting.{Setting}
 use Rattle.papergrid_config.specs.declared.spanned.SpannedConfig.{SpannedConfig}
@@ -23,7 +24,11 @@ use Rattle.papergrid_draw.specs.Lined.{lined}
 use Rattle.papergrid_draw.specs.Margins.{whole_width}
 use Rattle.papergrid_draw.specs.Pictures.{IsDrawingWith, IsFaultWith, texts_drawing}
 use Rattle.papergrid_draw.specs.Tiles.{IsTiled}
+use Rattle.papergrid_draw.specs.Crossings.{FitCrossings, IsFitFault}
+use Rattle.papergrid_draw.specs.Sinks.{IsRefusal}
+use Rattle.papergrid_draw.specs.declared.crossings.Junctions.{Junctions}
 use Rattle.papergrid_draw.specs.declared.error.DrawError.{DrawError}
+use Rattle.papergrid_draw.proofs.OneFitLemmas.{fit-or-fault, one-fit, one-fit-fault}
 use Rattle.papergrid_draw.proofs.OneLemmas.{drawn-or-faulty, one-drawn, one-fault, one-layout}
 use Rattle.papergrid_draw.proofs.PictureLemmas.{room-with}
 use Rattle.papergrid_csv.specs.Pictures.{AreFitted, Faulty, IsConfigured, IsCsvDrawing, IsCsvRefused, IsCsvRun, IsCsvTable, IsNarrow, IsUnfitted, IsUnpictured, IsWide, Unfitted, table_settings, table_shape}
@@ -94,21 +99,41 @@ end-of (errors.Unclosed count) = Unclosed count
 end-of (errors.Ragged count fields first) = Ragged count fields first
 end-of errors.Memory = Drawn
 
-module _ (request : Request) (plain : request.junctions ≡ None) (input : List ℕ)
+module _ (request : Request) (input : List ℕ)
     (same-by : (settings : List Setting) (x y : SpannedConfig) → HasSettingHistory settings x → HasSettingHistory settings y → HoldTheSameSettings x y) where
-  -- no settings are added for crossings
-  history : (t : IsCsvTable request input) (config : SpannedConfig) → IsConfigured request (table_settings t) (table_shape t) config → HasSettingHistory (settings_of request t.columns t.rows) config
-  history t config configured =
-      let none : configured.fitted ≡ [] = subst (λ junctions. AreFitted junctions (table_settings t) (table_shape t) config configured.fitted) plain configured.fit in
-      subst (λ settings. HasSettingHistory settings config) (ap (λ more. table_settings t ++ more) none ∙ append-nil (table_settings t)) configured.told.told
-
   module _ (t u : IsCsvTable request input) where
+    same-table-settings : table_settings t ≡ table_settings u
+    same-table-settings = let one = one-table request input t u in λ i. settings_of request (one.columns i) (one.rows i)
+
+    same-shape : table_shape t ≡ table_shape u
+    same-shape = let one = one-table request input t u in λ i. (length (one.rows i), one.columns i)
+
+    plain-same : (x y : SpannedConfig) → IsConfiguredBy (table_settings t) x → IsConfiguredBy (table_settings u) y → HoldTheSameSettings x y
+    plain-same x y a b = same-by (table_settings u) x y (subst (λ settings. HasSettingHistory settings x) same-table-settings a.told) b.told
+
+    same-fitted : (junctions : Option Junctions) (x y : SpannedConfig) (fitted more : List Setting) → AreFitted junctions (table_settings t) (table_shape t) x fitted →
+        AreFitted junctions (table_settings u) (table_shape u) y more → fitted ≡ more
+    same-fitted None x y fitted more a b = a ∙ sym b
+    same-fitted (Some junctions) x y fitted more a b =
+        one-fit a.0 b.0 (table_shape u) (plain-same a.0 b.0 a.1 b.1) junctions fitted more (subst (λ shape. FitCrossings a.0 shape junctions fitted) same-shape a.2) b.2
+
+    fitted-or-not : (junctions : Option Junctions) (x : SpannedConfig) (fitted : List Setting) (e : DrawError) → IsRefusal e → AreFitted junctions (table_settings t) (table_shape t) x fitted →
+        IsUnfitted junctions (table_settings u) (table_shape u) e → ⊥
+    fitted-or-not None x fitted e named a b = b
+    fitted-or-not (Some junctions) x fitted e named a b =
+        fit-or-fault a.0 b.0 (table_shape u) (plain-same a.0 b.0 a.1 b.1) junctions fitted e named (subst (λ shape. FitCrossings a.0 shape junctions fitted) same-shape a.2) b.2
+
+    one-unfitted : (junctions : Option Junctions) (e f : DrawError) → IsRefusal e → IsRefusal f → IsUnfitted junctions (table_settings t) (table_shape t) e →
+        IsUnfitted junctions (table_settings u) (table_shape u) f → e ≡ f
+    one-unfitted None e f named other a b = absurd a
+    one-unfitted (Some junctions) e f named other a b =
+        one-fit-fault a.0 b.0 (table_shape u) (plain-same a.0 b.0 a.1 b.1) e f named other (subst (λ shape. IsFitFault a.0 shape e) same-shape a.2) b.2
+
     same-configs : (x y : SpannedConfig) → IsConfigured request (table_settings t) (table_shape t) x → IsConfigured request (table_settings u) (table_shape u) y → HoldTheSameSettings x y
     same-configs x y a b =
-        let one = one-table request input t u in
-        same-by (settings_of request u.columns u.rows) x y
-        (subst (λ n. HasSettingHistory (settings_of request n u.rows) x) one.columns (subst (λ rows. HasSettingHistory (settings_of request t.columns rows) x) one.rows (history t x a)))
-        (history u y b)
+        let settings : table_settings t ++ a.fitted ≡ table_settings u ++ b.fitted =
+        λ i. same-table-settings i ++ same-fitted request.junctions x y a.fitted b.fitted a.fit b.fit i in
+        same-by (table_settings u ++ b.fitted) x y (subst (λ list. HasSettingHistory list x) settings a.told.told) b.told.told
 
     moved-drawing : (config : SpannedConfig) (d : Drawing) → IsDrawingWith t.columns t.shown request.sizing config d → IsDrawingWith u.columns u.shown request.sizing config d
     moved-drawing config d is =
@@ -132,7 +157,7 @@ module _ (request : Request) (plain : request.junctions ≡ None) (input : List 
   drawn-or-refused d e a b = by b.fault
     where
       by : IsUnpictured request (table_settings b.table) (table_shape b.table) b.table.columns b.table.shown e → ⊥
-      by (Unfitted none) = subst (λ junctions. IsUnfitted junctions (table_settings b.table) (table_shape b.table) e) plain none
+      by (Unfitted none) = fitted-or-not a.table b.table request.junctions a.config a.configured.fitted e b.refuses a.configured.fit none
       by (Faulty config configured fault) =
           drawn-or-faulty b.table.columns b.table.shown request.sizing a.config config (same-configs a.table b.table a.config config a.configured configured) d e
           (moved-drawing a.table b.table a.config d a.drawn) (csv-drawable request input d a) b.refuses fault
@@ -142,8 +167,9 @@ module _ (request : Request) (plain : request.junctions ≡ None) (input : List 
     where
       by : IsUnpictured request (table_settings a.table) (table_shape a.table) a.table.columns a.table.shown e →
           IsUnpictured request (table_settings b.table) (table_shape b.table) b.table.columns b.table.shown f → e ≡ f
-      by (Unfitted none) other = absurd (subst (λ junctions. IsUnfitted junctions (table_settings a.table) (table_shape a.table) e) plain none)
-      by one (Unfitted none) = absurd (subst (λ junctions. IsUnfitted junctions (table_settings b.table) (table_shape b.table) f) plain none)
+      by (Unfitted none) (Unfitted why) = one-unfitted a.table b.table request.junctions e f a.refuses b.refuses none why
+      by (Unfitted none) (Faulty y second why) = absurd (fitted-or-not b.table a.table request.junctions y second.fitted e a.refuses second.fit none)
+      by (Faulty x first fault) (Unfitted none) = absurd (fitted-or-not a.table b.table request.junctions x first.fitted f b.refuses first.fit none)
       by (Faulty x first fault) (Faulty y second why) =
           one-fault b.table.columns b.table.shown request.sizing x y (same-configs a.table b.table x y first second) e f a.refuses b.refuses (moved-fault a.table b.table x e fault) why
 

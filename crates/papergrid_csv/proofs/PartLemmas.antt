@@ -1,5 +1,5 @@
 -- What the settings of a request make of the parts of a configuration, with settings of crossings behind them.
-use Rattle.std.proofs.Common.{◌≡◌, ◌∙◌, ℕ, Bool, true, false, List, [], ◌∷◌, ◌++◌, All, Option, Some, None, ap, append-nil, flat_map, length, refl, subst, sym, cond}
+use Rattle.std.proofs.Common.{◌≡◌, ◌∙◌, ℕ, Bool, true, false, List, [], ◌∷◌, ◌++◌, All, Option, Some, None, ap, append-nil, flat_map, length, map, refl, subst, sym, cond}
 use Rattle.std.specs.Prelude.{nat_lt}
 use Rattle.std.proofs.lemmas.Grind.{flat_map-append}
 use Rattle.std.proofs.lemmas.List.Elements.{All-head, All-nil, All-tail}
@@ -19,7 +19,7 @@ use Rattle.papergrid_config.specs.declared.setting.Setting.TheVariants.{InsertHo
 use Rattle.papergrid_config.specs.declared.spanned.SpannedConfig.{SpannedConfig}
 use Rattle.papergrid_tables.specs.BorderCalls as lines
 use Rattle.papergrid_tables.specs.Made.{borders_made}
-use Rattle.papergrid_draw.specs.Crossings.{SetsCrossing, corner_border}
+use Rattle.papergrid_draw.specs.Crossings.{corner_border, crossing_setting}
 use Rattle.papergrid_draw.specs.declared.crossings.Junctions.{Junctions}
 use Rattle.papergrid_csv.specs.Pictures.{AreFitted}
 use Rattle.papergrid_csv.specs.Requests.{head_line, settings_of, span_settings}
@@ -33,19 +33,16 @@ none-made part (s ∷ settings) all =
     rw first (none-made part settings (All-tail (λ s. part s ≡ []) s settings all))
 
 -- settings of crossings make nothing of a part that borders of cells are not of
-crossings-none : {X : Type 0} (part : Setting → List X) → ((p : Position) (b : Border ℕ) → part (SetBorder p b) ≡ []) → (config : SpannedConfig) (shape : ℕ × ℕ) (junctions : Junctions) (fitted : List Setting) →
-    All (SetsCrossing config shape junctions) fitted → flat_map part fitted ≡ []
-crossings-none part none config shape junctions [] all = refl
-crossings-none part none config shape junctions (s ∷ fitted) all =
-    let sets = All-head (SetsCrossing config shape junctions) s fitted all in
-    let first : part s ≡ [] = ap part sets.2 ∙ none sets.0 (corner_border sets.1) in
-    rw first (crossings-none part none config shape junctions fitted (All-tail (SetsCrossing config shape junctions) s fitted all))
+crossings-none : {X : Type 0} (part : Setting → List X) → ((p : Position) (b : Border ℕ) → part (SetBorder p b) ≡ []) → (crossings : List (Position × ℕ)) →
+    flat_map part (map crossing_setting crossings) ≡ []
+crossings-none part none [] = refl
+crossings-none part none (crossing ∷ crossings) = rw (none crossing.0 (corner_border crossing.1)) (crossings-none part none crossings)
 
 -- nor do settings that fit crossings, if there are any
 pub fitted-none : {X : Type 0} (part : Setting → List X) → ((p : Position) (b : Border ℕ) → part (SetBorder p b) ≡ []) → (junctions : Option Junctions) (settings : List Setting) (shape : ℕ × ℕ) (config : SpannedConfig) (fitted : List Setting) →
     AreFitted junctions settings shape config fitted → flat_map part fitted ≡ []
 fitted-none part none None settings shape config fitted are = ap (flat_map part) are
-fitted-none part none (Some junctions) settings shape config fitted are = crossings-none part none are.0 shape junctions fitted are.2.corners
+fitted-none part none (Some junctions) settings shape config fitted are = ap (flat_map part) are.2.are ∙ crossings-none part none are.2.crossings
 
 module _ {X : Type 0} (part : Setting → List X) (request : Request) (columns : ℕ) (rows : List (List (List ℕ)))
     (none : flat_map part (others request columns rows) ≡ []) where

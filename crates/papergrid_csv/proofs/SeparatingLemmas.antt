@@ -1,8 +1,8 @@
 -- Where the characters of a request are separators, so are those that the settings of its tables set, with those that fit crossings.
-use Rattle.std.proofs.Common.{◌≡◌, ◌∙◌, ℕ, Bool, true, false, List, [], ◌∷◌, All, Option, Some, None, ap, cond, flat_map, length, lit<, refl, subst, sym}
+use Rattle.std.proofs.Common.{◌≡◌, ◌∙◌, ℕ, Bool, true, false, List, [], ◌∷◌, All, Option, Some, None, ap, cond, flat_map, get_or, length, lit<, map, refl, subst}
 use Rattle.std.specs.Prelude.{nat_lt}
 use Rattle.std.specs.List.{AllPass, list_all}
-use Rattle.std.proofs.lemmas.List.Elements.{All-head, All-tail}
+use Rattle.std.proofs.lemmas.List.Elements.{All-head, All-tail, Contains-get_or}
 use Rattle.std.proofs.lemmas.List.Folds.{list_all-append}
 use Rattle.std.proofs.lemmas.List.Sums.{AllPass-from_list_all, list_all-from_AllPass}
 use Rattle.papergrid_values.specs.declared.alignment.AlignmentHorizontal.{AlignmentHorizontal}
@@ -11,11 +11,12 @@ use Rattle.papergrid_values.specs.declared.entity.Entity.{Entity}
 use Rattle.papergrid_values.specs.declared.entity.Entity.TheVariants.{Global}
 use Rattle.papergrid_values.specs.declared.horizontal_line.HorizontalLine.{HorizontalLine}
 use Rattle.papergrid_text.specs.Separators.{is_separator}
+use Rattle.papergrid_values.specs.declared.position.Position.{Position}
 use Rattle.papergrid_config.specs.declared.setting.Setting.{Setting}
-use Rattle.papergrid_config.specs.declared.setting.Setting.TheVariants.{InsertHorizontalLine, SetAlignmentHorizontal, SetAlignmentVertical, SetBorder, SetBorders, SetPadding}
+use Rattle.papergrid_config.specs.declared.setting.Setting.TheVariants.{InsertHorizontalLine, SetAlignmentHorizontal, SetAlignmentVertical, SetBorders, SetPadding}
 use Rattle.papergrid_config.specs.declared.spanned.SpannedConfig.{SpannedConfig}
 use Rattle.papergrid_draw.specs.Separated.{part_separates, setting_separates}
-use Rattle.papergrid_draw.specs.Crossings.{SetsCrossing, corner_border, junction}
+use Rattle.papergrid_draw.specs.Crossings.{IsUnfit, crossing_setting, junction}
 use Rattle.papergrid_draw.specs.declared.crossings.Junctions.{Junctions}
 use Rattle.papergrid_csv.specs.Pictures.{AreFitted}
 use Rattle.papergrid_csv.specs.Requests.{IsSeparating, fitting_characters, head_line, head_parts, settings_of, span_settings}
@@ -73,18 +74,19 @@ junction-separates j all false false true false character is = cc
 junction-separates j all false false false true character is = cc
 junction-separates j all false false false false character is = cc
 
-crossings-separate : (config : SpannedConfig) (shape : ℕ × ℕ) (junctions : Junctions) → AllPass is_separator (fitting_characters (Some junctions)) → (fitted : List Setting) →
-    All (SetsCrossing config shape junctions) fitted → list_all setting_separates fitted ≡ true
+crossings-separate : (config : SpannedConfig) (shape : ℕ × ℕ) (junctions : Junctions) → AllPass is_separator (fitting_characters (Some junctions)) → (crossings : List (Position × ℕ)) →
+    All (λ crossing. IsUnfit config shape junctions crossing.0 crossing.1) crossings → list_all setting_separates (map crossing_setting crossings) ≡ true
 crossings-separate config shape junctions separate [] all = refl
-crossings-separate config shape junctions separate (s ∷ fitted) all =
-    let sets = All-head (SetsCrossing config shape junctions) s fitted all in
-    let own : is_separator sets.1 ≡ true = junction-separates junctions separate _ _ _ _ sets.1 sets.4 in
-    let corner : setting_separates (SetBorder sets.0 (corner_border sets.1)) ≡ true = rw own refl in
-    let first : setting_separates s ≡ true = subst (λ setting. setting_separates setting ≡ true) (sym sets.2) corner in
-    rw first (crossings-separate config shape junctions separate fitted (All-tail (SetsCrossing config shape junctions) s fitted all))
+crossings-separate config shape junctions separate (crossing ∷ crossings) all =
+    let unfit = All-head (λ c. IsUnfit config shape junctions c.0 c.1) crossing crossings all in
+    let own : is_separator crossing.1 ≡ true = junction-separates junctions separate _ _ _ _ crossing.1 unfit.joins in
+    let first : setting_separates (crossing_setting crossing) ≡ true = rw own refl in
+    rw first (crossings-separate config shape junctions separate crossings (All-tail (λ c. IsUnfit config shape junctions c.0 c.1) crossing crossings all))
 
 pub fitted-separate : (junctions : Option Junctions) (settings : List Setting) (shape : ℕ × ℕ) (config : SpannedConfig) (fitted : List Setting) → list_all is_separator (fitting_characters junctions) ≡ true →
     AreFitted junctions settings shape config fitted → list_all setting_separates fitted ≡ true
 fitted-separate None settings shape config fitted separate are = ap (list_all setting_separates) are
 fitted-separate (Some junctions) settings shape config fitted separate are =
-    crossings-separate are.0 shape junctions (AllPass-from_list_all is_separator (fitting_characters (Some junctions)) separate) fitted are.2.corners
+    ap (list_all setting_separates) are.2.are
+    ∙ crossings-separate are.0 shape junctions (AllPass-from_list_all is_separator (fitting_characters (Some junctions)) separate) are.2.crossings
+    (λ k d within. let crossing = get_or are.2.crossings k d in (are.2.each crossing.0 crossing.1).0 (Contains-get_or are.2.crossings k d within))

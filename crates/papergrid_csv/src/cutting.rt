@@ -1,6 +1,6 @@
 //! Texts whose lines are cut.
 
-ghost use Rattle.std.specs.Prelude.{◌≡◌, ◌<◌, ◌≤◌, All, IfOk, OnOk, false, string_bytes, true};
+ghost use Rattle.std.specs.Prelude.{◌≡◌, ◌↔◌, ◌<◌, ◌≤◌, All, IfOk, IsFalse, IsOk, OnOk, string_bytes, true};
 ghost use Rattle.std.specs.Int.{is_in_range};
 ghost use Rattle.std.specs.List.{prefix_len};
 ghost use Rattle.papergrid_text.specs.Text.{split_lines, width_of};
@@ -15,12 +15,13 @@ use papergrid_text::width::{count_printable, is_printable, width};
 use std::alloc::AllocError;
 
 /// A text of which each line that is wider than so many columns is cut: its first characters stay, and an ellipsis
-/// stands in place of the others. A text that has no such line is answered itself.
+/// stands in place of the others. A text that has no such line is answered itself, and nothing is allocated.
 ///
 /// It takes time by the length of the text, and for each line that is cut by the number of columns, times how many
 /// characters stand between two letters, blanks or ideographs there.
 pub fn cut<'t>(texts: &'t Bump, columns: usize, text: &'t str) -> Result<&'t str, AllocError>
-    ensures { IfOk result (λ shown. IsCut columns text.now shown.now) }
+    ensures cut { IfOk result (λ shown. IsCut columns text.now shown.now) }
+    ensures itself { All (λ line. width_of line ≤ columns) (split_lines text.now) → IsOk result }
 {
     if text.len() <= columns && is_printable(text) {
         return Ok(text);
@@ -33,7 +34,7 @@ pub fn cut<'t>(texts: &'t Bump, columns: usize, text: &'t str) -> Result<&'t str
 
 /// Whether a line is wider than so many columns.
 fn has_wide_line(columns: usize, text: &str) -> bool
-    ensures { result ≡ false → All (λ line. width_of line ≤ columns) (split_lines text.now) }
+    ensures { IsFalse result ↔ All (λ line. width_of line ≤ columns) (split_lines text.now) }
 {
     for line in get_lines(text) {
         if width(line) > columns {

@@ -37,8 +37,8 @@ use Rattle.papergrid_config.specs.History.{HasSettingHistory, newest_or}
 use Rattle.papergrid_config.specs.Parts.{padding_calls, padding_color_calls, trim_horizontal_calls, trim_vertical_calls, line_alignment_calls, alignment_horizontal_calls, alignment_vertical_calls, justification_calls, justification_color_calls, character_calls, color_calls, horizontal_char_calls, vertical_char_calls, horizontal_color_calls, vertical_color_calls, span_calls, margins, margin_colors, margin_offsets, missing_characters}
 use Rattle.papergrid_config.specs.declared.setting.Setting.{Setting}
 use Rattle.papergrid_config.specs.declared.spanned.SpannedConfig.{SpannedConfig}
-use Rattle.papergrid_draw.specs.Crossings.{BecomesBy, DifferInCrossings, corner_border}
-use Rattle.papergrid_draw.specs.ForProofs.Crossings.{IsMark, mark_at, setting_of}
+use Rattle.papergrid_draw.specs.Crossings.{BecomesBy, DifferInCrossings, corner_border, crossing_setting}
+use Rattle.papergrid_draw.specs.ForProofs.Crossings.{IsMark, mark_at}
 use Rattle.papergrid_draw.specs.declared.crossings.Junctions.{Junctions}
 
 -- ---- the character at a position
@@ -119,12 +119,12 @@ after-mark mark old = λ i. record old {
 }
 
 parts-marked : (marks : List (Position × ℕ)) (calls : List (BorderCall ℕ)) →
-    parts_from (reverse (calls ++ flat_map character_calls (map setting_of marks))) ≡ with_marks marks (parts_from (reverse calls))
+    parts_from (reverse (calls ++ flat_map character_calls (map crossing_setting marks))) ≡ with_marks marks (parts_from (reverse calls))
 parts-marked [] calls = ap (λ list. parts_from (reverse list)) (append-nil calls)
 parts-marked (m ∷ marks) calls =
     let call : BorderCall ℕ = InsertBorder m.0 (corner_border m.1) in
     let old : BorderParts ℕ = parts_from (reverse calls) in
-    let rest = flat_map character_calls (map setting_of marks) in
+    let rest = flat_map character_calls (map crossing_setting marks) in
     let one : parts_from (reverse (calls ++ call ∷ [])) ≡ with_marks (m ∷ []) old = ap parts_from (reverse-append calls (call ∷ [])) ∙ after-mark m old in
     let twice : with_marks marks (with_marks (m ∷ []) old) ≡ with_marks (m ∷ marks) old =
     λ i. record old { corner = λ p. sym (or-again (mark_at marks p) (its_mark m p) (old.corner p)) i } in
@@ -145,31 +145,31 @@ module _ {A B C D E K L : Type 0} where
   last-of f (inr (inr (inr (inr (inl e))))) = inr (inr (inr (inr (inl e))))
   last-of f (inr (inr (inr (inr (inr k))))) = f k
 
-module _ (old new : SpannedConfig) (marks : List (Position × ℕ)) (becomes : BecomesBy old new (map setting_of marks)) where
+module _ (old new : SpannedConfig) (marks : List (Position × ℕ)) (becomes : BecomesBy old new (map crossing_setting marks)) where
   abbrev after : List Setting
-  after = becomes.history ++ map setting_of marks
+  after = becomes.history ++ map crossing_setting marks
 
   told : HasSettingHistory after new
   told = becomes.appends becomes.history becomes.told
 
   pub parts-new : parts_of_borders new.characters ≡ with_marks marks (parts_of_borders old.characters)
   parts-new =
-      told.characters ∙ ap (λ list. parts_from (reverse list)) (flat_map-append character_calls becomes.history (map setting_of marks))
+      told.characters ∙ ap (λ list. parts_from (reverse list)) (flat_map-append character_calls becomes.history (map crossing_setting marks))
       ∙ parts-marked marks (flat_map character_calls becomes.history) ∙ ap (with_marks marks) (sym becomes.told.characters)
 
   -- ---- the other parts of the configuration
 
-  no-calls : {C : Type 0} (calls : Setting → List C) → ((mark : Position × ℕ) → calls (setting_of mark) ≡ []) →
+  no-calls : {C : Type 0} (calls : Setting → List C) → ((mark : Position × ℕ) → calls (crossing_setting mark) ≡ []) →
       flat_map calls after ≡ flat_map calls becomes.history
   no-calls calls none =
-      flat_map-append calls becomes.history (map setting_of marks) ∙ ap (λ list. flat_map calls becomes.history ++ list) (all marks)
+      flat_map-append calls becomes.history (map crossing_setting marks) ∙ ap (λ list. flat_map calls becomes.history ++ list) (all marks)
       ∙ append-nil (flat_map calls becomes.history)
     where
-      all : (list : List (Position × ℕ)) → flat_map calls (map setting_of list) ≡ []
+      all : (list : List (Position × ℕ)) → flat_map calls (map crossing_setting list) ≡ []
       all [] = refl
-      all (m ∷ list) = ap (λ front. front ++ flat_map calls (map setting_of list)) (none m) ∙ all list
+      all (m ∷ list) = ap (λ front. front ++ flat_map calls (map crossing_setting list)) (none m) ∙ all list
 
-  same-map : {T : Type 0} (given : T) (calls : Setting → List (MapCall T)) → ((mark : Position × ℕ) → calls (setting_of mark) ≡ []) →
+  same-map : {T : Type 0} (given : T) (calls : Setting → List (MapCall T)) → ((mark : Position × ℕ) → calls (crossing_setting mark) ≡ []) →
       (m n : Stored T) → maps.HasMapHistory given (flat_map calls after) m → maps.HasMapHistory given (flat_map calls becomes.history) n → m ≡ n
   same-map given calls none m n later history =
       let now = subst (λ list. maps.HasMapHistory given list m) (no-calls calls none) later in
@@ -180,7 +180,7 @@ module _ (old new : SpannedConfig) (marks : List (Position × ℕ)) (becomes : B
         cells = same_map position_total exact_positions m.cells n.cells (λ p. now.cells p ∙ sym (history.cells p)) i;
       }
 
-  same-value : {T : Type 0} (given : T) (values : Setting → List T) → ((mark : Position × ℕ) → values (setting_of mark) ≡ []) →
+  same-value : {T : Type 0} (given : T) (values : Setting → List T) → ((mark : Position × ℕ) → values (crossing_setting mark) ≡ []) →
       {v w : T} → v ≡ newest_or given (reverse (flat_map values after)) → w ≡ newest_or given (reverse (flat_map values becomes.history)) → v ≡ w
   same-value given values none later history =
       later ∙ ap (λ list. newest_or given (reverse list)) (no-calls values none) ∙ sym history
@@ -269,7 +269,7 @@ module _ (old new : SpannedConfig) (marks : List (Position × ℕ)) (becomes : B
         before : StandsOn Columns n (with_marks marks parts).corner → HasVertical parts n shape.1
         before stands = elim (stood-on Columns n stands) [
           | inl stood ↦ inr (inr (inr (inr (inr stood))))
-          | inr found ↦ subst (λ m. HasVertical parts m shape.1) found.2 ((vertical_tested old.characters found.0.0.col shape.1).0 found.1.vertical)
+          | inr found ↦ subst (λ m. HasVertical parts m shape.1) found.2 ((vertical_tested old.characters found.0.0.col shape.1).0 found.1.unfit.seen.vertical)
         ]
 
     pub horizontal-same : (n : ℕ) → horizontal_line_at new.characters n shape.0 ≡ horizontal_line_at old.characters n shape.0
@@ -282,5 +282,5 @@ module _ (old new : SpannedConfig) (marks : List (Position × ℕ)) (becomes : B
         before : StandsOn Rows n (with_marks marks parts).corner → HasHorizontal parts n shape.0
         before stands = elim (stood-on Rows n stands) [
           | inl stood ↦ inr (inr (inr (inr (inr stood))))
-          | inr found ↦ subst (λ m. HasHorizontal parts m shape.0) found.2 ((horizontal_tested old.characters found.0.0.row shape.0).0 found.1.horizontal)
+          | inr found ↦ subst (λ m. HasHorizontal parts m shape.0) found.2 ((horizontal_tested old.characters found.0.0.row shape.0).0 found.1.unfit.seen.horizontal)
         ]

@@ -1,10 +1,12 @@
 -- Crossings that are fitted one after another.
 use Rattle.std.proofs.Common.{◌≡◌, ◌∙◌, ap, sym, subst, refl, inl, inr, ℕ, ◌+◌, ◌-◌, ◌<◌, ◌≤◌, ◌⊎◌, ◌^◌, Bool, true, false, ◌&&◌, List, [], ◌∷◌, ◌++◌, map, Option, Some, None, arith, get_or}
-use Rattle.std.specs.Prelude.{◌||◌, All, IsSome, if◌then◌else◌, nat_lt, not, unwrap_or}
+use Rattle.std.specs.Prelude.{◌||◌, All, AllPairs, Contains, IsSome, if◌then◌else◌, nat_lt, not, unwrap_or}
 use Rattle.std.specs.Option.{option_eq, option_or}
 use Rattle.std.proofs.lemmas.Bool.{and_from, cases_lt, false≢true, false_from_ne_true, lt-ltb, or_left, or_right}
 use Rattle.std.proofs.lemmas.List.{map-append}
-use Rattle.std.proofs.lemmas.List.Elements.{All-append, All-cons, All-map}
+use Rattle.std.proofs.lemmas.List.Elements.{All-append, All-cons, All-contains, All-contains_itself, All-head, All-map, All-tail}
+use Rattle.std.proofs.lemmas.List.Quantifiers.{all_pairs_push}
+use Rattle.std.proofs.lemmas.Option.{same_Some}
 use Rattle.papergrid_values.specs.MapKeys.{position_eq}
 use Rattle.papergrid_values.specs.Positions.{IsBefore, position_of}
 use Rattle.papergrid_values.specs.declared.position.Position.{Position}
@@ -20,10 +22,10 @@ use Rattle.papergrid_draw.specs.Drawings.{Drawing, layout_of}
 use Rattle.papergrid_draw.specs.Drawn.{draws_horizontal, draws_vertical, owner_at}
 use Rattle.papergrid_draw.specs.Tiles.{IsTiled, owner}
 use Rattle.papergrid_draw.proofs.TilingLemmas.{none-first, not-before}
-use Rattle.papergrid_draw.specs.Crossings.{BecomesBy, FitCrossings, IsSeenCrossing, SetsCrossing, bare_drawing, junction, junction_at}
-use Rattle.papergrid_draw.specs.ForProofs.Crossings.{AreFittedBefore, FitsAlready, HasMark, IsMark, mark_at, marked_character, setting_of}
+use Rattle.papergrid_draw.specs.Crossings.{BecomesBy, FitCrossings, IsSeenCrossing, IsUnfit, bare_drawing, crossing_setting, junction, junction_at}
+use Rattle.papergrid_draw.specs.ForProofs.Crossings.{AreFittedBefore, FitsAlready, IsMark, mark_at, marked_character}
 use Rattle.papergrid_draw.specs.declared.crossings.Junctions.{Junctions}
-use Rattle.papergrid_draw.proofs.CornerLemmas.{differ, found-new, horizontal-same, mark_at-push, missing-same, vertical-same}
+use Rattle.papergrid_draw.proofs.CornerLemmas.{differ, found-new, horizontal-same, mark_at-push, marked, missing-same, vertical-same}
 
 -- ---- at least two lines meet at a crossing that is seen
 
@@ -113,8 +115,22 @@ before-next r c i j (inl above) = inl (inl above)
 before-next r c i j (inr left) = let l : c < j + 1 = left.1 in
     elim (cases_lt c j) [ inl less ↦ inl (inr (left.0, less)) | inr from ↦ inr (left.0, omega arith) ]
 
+-- where all marks are earlier, a position has none
+unmarked : (i j : ℕ) (marks : List (Position × ℕ)) → All (λ mark. IsBefore mark.0 (position_of (i, j))) marks →
+    (p : Position) → (IsBefore p (position_of (i, j)) → ⊥) → mark_at marks p ≡ None
+unmarked i j [] before p after = refl
+unmarked i j (m ∷ marks) before p after =
+    let rest = unmarked i j marks (All-tail (λ mark. IsBefore mark.0 (position_of (i, j))) m marks before) p after in
+    let own : IsBefore m.0 (position_of (i, j)) = All-head (λ mark. IsBefore mark.0 (position_of (i, j))) m marks before in
+    let apart : position_eq m.0 p ≡ false = false_from_ne_true (position_eq m.0 p)
+    (λ yes. after (subst (λ q. IsBefore q (position_of (i, j))) (exact_position_eq m.0 p yes) own)) in
+    rw (rest, apart) refl
+
 none-yet : (P : Position × ℕ → Type 0) → All P []
 none-yet P k d within = absurd (omega (arith, within))
+
+no-pairs : (R : Position × ℕ → Position × ℕ → Type 0) → AllPairs R []
+no-pairs R i j d less within = absurd (omega (arith, within))
 
 module _ (config : SpannedConfig) (shape : ℕ × ℕ) (junctions : Junctions) where
   abbrev bare : Drawing
@@ -129,7 +145,8 @@ module _ (config : SpannedConfig) (shape : ℕ × ℕ) (junctions : Junctions) w
     marks = [];
     are = refl;
     each = none-yet (IsMark config shape junctions);
-    later = λ p after. refl;
+    ascending = no-pairs (λ a b. IsBefore a.0 b.0);
+    before = none-yet (λ mark. IsBefore mark.0 (position_of (0, 0)));
     fit = λ r c seen before. absurd (none-first (position_of (r, c)) before);
   }
 
@@ -137,14 +154,15 @@ module _ (config : SpannedConfig) (shape : ℕ × ℕ) (junctions : Junctions) w
   pub fitted-pass : (i j : ℕ) (settings : List Setting) → AreFittedBefore config shape junctions i j settings → FitsAlready config shape junctions i j →
       AreFittedBefore config shape junctions i (j + 1) settings
   fitted-pass i j settings fitted already =
-      let unmarked : mark_at fitted.marks (position_of (i, j)) ≡ None = fitted.later (position_of (i, j)) (not-before (position_of (i, j))) in
+      let unmarked : mark_at fitted.marks (position_of (i, j)) ≡ None = unmarked i j fitted.marks fitted.before (position_of (i, j)) (not-before (position_of (i, j))) in
       let here : IsSeenCrossing bare i j → IsFit fitted.marks i j = λ seen.
       already seen ∙ ap (λ o. Some (unwrap_or (option_or o (found_intersection (parts_of_borders config.characters) (position_of (i, j)) shape.0 shape.1)) config.missing)) (sym unmarked) in
       record {
         marks = fitted.marks;
         are = fitted.are;
         each = fitted.each;
-        later = λ p after. fitted.later p (λ before. after (before-more p i j before));
+        ascending = fitted.ascending;
+        before = λ k d within. before-more (get_or fitted.marks k d).0 i j (fitted.before k d within);
         fit = λ r c seen before. elim (before-next r c i j before) [
           | inl earlier ↦ fitted.fit r c seen earlier
           | inr same ↦ subst (λ m. IsSeenCrossing bare m c → IsFit fitted.marks m c) (sym same.0)
@@ -154,17 +172,14 @@ module _ (config : SpannedConfig) (shape : ℕ × ℕ) (junctions : Junctions) w
 
   -- one that is given another character
   pub fitted-push : (i j character : ℕ) (settings : List Setting) → i ≤ shape.0 → j ≤ shape.1 → shape.0 + 1 < 2 ^ 64 → shape.1 + 1 < 2 ^ 64 →
-      AreFittedBefore config shape junctions i j settings → HasMark config shape junctions i j character →
-      AreFittedBefore config shape junctions i (j + 1) (settings ++ setting_of (position_of (i, j), character) ∷ [])
+      AreFittedBefore config shape junctions i j settings → IsUnfit config shape junctions (position_of (i, j)) character →
+      AreFittedBefore config shape junctions i (j + 1) (settings ++ crossing_setting (position_of (i, j), character) ∷ [])
   fitted-push i j character settings in_rows in_columns rows columns fitted has =
       let mark : Position × ℕ = (position_of (i, j), character) in
       let marks = fitted.marks ++ mark ∷ [] in
       let own : IsMark config shape junctions mark = record {
         in_range = and_from _ _ (lt-ltb (i + 1) (2 ^ 64) (omega (arith, in_rows, rows))) (lt-ltb (j + 1) (2 ^ 64) (omega (arith, in_columns, columns)));
-        horizontal = has.horizontal;
-        vertical = has.vertical;
-        joins = has.joins;
-        other = has.other;
+        unfit = has;
       } in
       let elsewhere : (p : Position) → (position_of (i, j) ≡ p → ⊥) → mark_at marks p ≡ mark_at fitted.marks p = λ p apart.
       mark_at-push fitted.marks mark p ∙ ap (λ b. option_or (if b then Some character else None) (mark_at fitted.marks p))
@@ -172,14 +187,16 @@ module _ (config : SpannedConfig) (shape : ℕ × ℕ) (junctions : Junctions) w
       let same : mark_at marks (position_of (i, j)) ≡ Some character =
       mark_at-push fitted.marks mark (position_of (i, j)) ∙ ap (λ b. option_or (if b then Some character else None) (mark_at fitted.marks (position_of (i, j))))
       (position_equiv.refl (position_of (i, j))) in
+      let IsEarlier : Position × ℕ → Type 0 = λ m. IsBefore m.0 (position_of (i, j + 1)) in
       let here : IsSeenCrossing bare i j → IsFit marks i j = λ seen.
       has.joins ∙ ap (λ o. Some (unwrap_or (option_or o (found_intersection (parts_of_borders config.characters) (position_of (i, j)) shape.0 shape.1)) config.missing)) (sym same) in
       record {
         marks = marks;
-        are = ap (λ list. list ++ setting_of mark ∷ []) fitted.are ∙ sym (map-append setting_of fitted.marks (mark ∷ []));
+        are = ap (λ list. list ++ crossing_setting mark ∷ []) fitted.are ∙ sym (map-append crossing_setting fitted.marks (mark ∷ []));
         each = All-append (IsMark config shape junctions) fitted.marks (mark ∷ []) fitted.each (All-cons (IsMark config shape junctions) mark [] own (none-yet (IsMark config shape junctions)));
-        later = λ p after. elsewhere p (λ is. after (subst (λ q. IsBefore q (position_of (i, j + 1))) is (inr (refl, omega arith))))
-            ∙ fitted.later p (λ before. after (before-more p i j before));
+        ascending = all_pairs_push (λ a b. IsBefore a.0 b.0) fitted.marks mark fitted.ascending fitted.before;
+        before = All-append IsEarlier fitted.marks (mark ∷ []) (λ k d within. before-more (get_or fitted.marks k d).0 i j (fitted.before k d within))
+            (All-cons IsEarlier mark [] (inr (refl, omega arith)) (none-yet IsEarlier));
         fit = λ r c seen before. elim (before-next r c i j before) [
           | inl earlier ↦ fitted.fit r c seen earlier
               ∙ ap (λ o. Some (unwrap_or (option_or o (found_intersection (parts_of_borders config.characters) (position_of (r, c)) shape.0 shape.1)) config.missing))
@@ -196,7 +213,8 @@ module _ (config : SpannedConfig) (shape : ℕ × ℕ) (junctions : Junctions) w
     marks = fitted.marks;
     are = fitted.are;
     each = fitted.each;
-    later = λ p after. fitted.later p (λ before. after (inl (earlier p before)));
+    ascending = fitted.ascending;
+    before = λ k d within. inl (earlier (get_or fitted.marks k d).0 (fitted.before k d within));
     fit = λ r c seen before. fitted.fit r c seen (turned r c seen before);
   }
     where
@@ -228,7 +246,8 @@ module _ (config : SpannedConfig) (shape : ℕ × ℕ) (junctions : Junctions) w
     marks = [];
     are = refl;
     each = none-yet (IsMark config shape junctions);
-    later = λ p after. refl;
+    ascending = no-pairs (λ a b. IsBefore a.0 b.0);
+    before = none-yet (λ mark. IsBefore mark.0 (position_of (i, 0)));
     fit = λ r c seen before. absurd (elim none [ inl rows ↦ omega (arith, rows, seen.has_rows) | inr columns ↦ omega (arith, columns, seen.has_columns) ]);
   }
 
@@ -258,7 +277,7 @@ module _ (junctions : Junctions) (settings : List Setting) where
   fit-seen : (d : Drawing) → AreFittedBefore d.config d.shape junctions (d.shape.0 + 1) 0 settings → (new : SpannedConfig) → BecomesBy d.config new settings →
       (i j : ℕ) → IsSeenCrossing d i j → junction_at junctions d i j ≡ Some (crossing_character new d.shape (position_of (i, j)))
   fit-seen d fitted new becomes i j seen =
-      let by : BecomesBy d.config new (map setting_of fitted.marks) = subst (BecomesBy d.config new) fitted.are becomes in
+      let by : BecomesBy d.config new (map crossing_setting fitted.marks) = subst (BecomesBy d.config new) fitted.are becomes in
       let p : Position = position_of (i, j) in
       let found = found-new d.config new fitted.marks by p d.shape.0 d.shape.1 in
       let missing = missing-same d.config new fitted.marks by in
@@ -267,18 +286,37 @@ module _ (junctions : Junctions) (settings : List Setting) where
       ∙ ap (λ m. Some (unwrap_or (found_intersection (parts_of_borders new.characters) p d.shape.0 d.shape.1) m)) (sym missing)
 
   module _ (config : SpannedConfig) (shape : ℕ × ℕ) (fitted : AreFittedBefore config shape junctions (shape.0 + 1) 0 settings) where
-    by-marks : (new : SpannedConfig) → BecomesBy config new settings → BecomesBy config new (map setting_of fitted.marks)
+    by-marks : (new : SpannedConfig) → BecomesBy config new settings → BecomesBy config new (map crossing_setting fitted.marks)
     by-marks new becomes = subst (BecomesBy config new) fitted.are becomes
 
-    pub fit-all : IsTiled (layout_of (bare_drawing config shape)) → (shape.0 + 1 < 2 ^ 64) × (shape.1 + 1 < 2 ^ 64) → ((shape.0 ≡ 0) ⊎ (shape.1 ≡ 0) → settings ≡ []) →
-        FitCrossings config shape junctions settings
-    fit-all tiled counted none = record {
+    -- each crossing that has another character is marked
+    marks-all : (p : Position) (character : ℕ) → IsUnfit config shape junctions p character → Contains fitted.marks (p, character)
+    marks-all p character unfit =
+        let fits = fitted.fit p.row p.col unfit.seen (before-end p.row p.col shape.0 unfit.seen.row) in
+        elim (mark_at fitted.marks p) as (λ o. mark_at fitted.marks p ≡ o → Contains fitted.marks (p, character)) [
+          | None ↦ λ none. absurd (unfit.other (same_Some (crossing_character config shape p) character
+              (sym (fits ∙ ap (λ o. Some (unwrap_or (option_or o (found_intersection (parts_of_borders config.characters) p shape.0 shape.1)) config.missing)) none) ∙ unfit.joins)))
+          | Some own ↦ λ is. (let found = marked (Contains fitted.marks) fitted.marks p own (All-contains_itself fitted.marks) is in
+              let mark = found.0 in
+              let unfitted = (All-contains (IsMark config shape junctions) fitted.marks mark fitted.each found.1).unfit in
+              let at : mark.0 ≡ p = found.2 in
+              let same : mark.1 ≡ character = same_Some mark.1 character
+              (sym unfitted.joins ∙ (λ k. junction_at junctions (bare_drawing config shape) (at k).row (at k).col) ∙ unfit.joins) in
+              subst (Contains fitted.marks) (λ k. (at k, same k)) found.1)
+        ] refl
+
+    pub fit-all : IsTiled (layout_of (bare_drawing config shape)) → (shape.0 + 1 < 2 ^ 64) × (shape.1 + 1 < 2 ^ 64) → FitCrossings config shape junctions settings
+    fit-all tiled counted = record {
       tiled = tiled;
       counted = counted;
-      none = none;
-      corners = subst (All (SetsCrossing config shape junctions)) (sym fitted.are) (All-map (SetsCrossing config shape junctions) setting_of fitted.marks (λ k other within.
-          let m = get_or fitted.marks k other in let is = fitted.each k other within in (m.0, m.1, refl, is.other, is.joins)));
-      in_range = subst (All (λ s. is_in_range s ≡ true)) (sym fitted.are) (All-map (λ s. is_in_range s ≡ true) setting_of fitted.marks (λ k other within. (fitted.each k other within).in_range));
+      crossings = fitted.marks;
+      are = fitted.are;
+      each = λ p character. (
+        (λ contained. (All-contains (IsMark config shape junctions) fitted.marks (p, character) fitted.each contained).unfit),
+        marks-all p character,
+      );
+      ascending = fitted.ascending;
+      in_range = subst (All (λ s. is_in_range s ≡ true)) (sym fitted.are) (All-map (λ s. is_in_range s ≡ true) crossing_setting fitted.marks (λ k other within. (fitted.each k other within).in_range));
       keeps = λ new becomes. differ config new fitted.marks (by-marks new becomes);
       lines = λ new becomes d e d_config e_config d_shape e_shape n.
           let by = by-marks new becomes in

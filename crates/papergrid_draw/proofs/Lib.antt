@@ -21,6 +21,7 @@ pub mod LineLemmas
 pub mod LinedLemmas
 pub mod LookLemmas
 pub mod MarginLemmas
+pub mod OneFitLemmas
 pub mod OneLemmas
 pub mod OverLemmas
 pub mod OverrideLemmas

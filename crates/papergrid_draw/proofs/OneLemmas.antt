@@ -115,7 +115,7 @@ module _ (d : Drawing) where
 
 -- ---- sizes that are chosen so
 
-one-sizes : (sizing : Sizing) (problem : Problem) (xs ys : List ℕ) → AreSizesBy sizing problem xs → AreSizesBy sizing problem ys → xs ≡ ys
+pub one-sizes : (sizing : Sizing) (problem : Problem) (xs ys : List ℕ) → AreSizesBy sizing problem xs → AreSizesBy sizing problem ys → xs ≡ ys
 one-sizes ByShares problem xs ys a b = a.exact ∙ sym b.exact
 one-sizes Least problem xs ys a b = (furthest_right-is problem a.table xs).0 a.exact ∙ sym ((furthest_right-is problem b.table ys).0 b.exact)
 
@@ -129,6 +129,56 @@ sized-not-large Least problem sizes a b =
     let large = subst (λ s. 2 ^ 64 ≤ total_of problem s) (sym ((furthest_right-is problem a.table sizes).0 a.exact)) b.too_large in
     omega (arith, small, large)
 
+-- ---- a drawing by configurations that hold the same
+
+pub other-way : (x y : SpannedConfig) → HoldTheSameSettings x y → HoldTheSameSettings y x
+other-way x y same = record {
+  but_overrides = λ i. record (sym same.but_overrides i) {
+    alloc = y.alloc;
+    horizontal_chars = y.horizontal_chars;
+    vertical_chars = y.vertical_chars;
+    horizontal_colors = y.horizontal_colors;
+    vertical_colors = y.vertical_colors;
+  };
+  horizontal_chars = sym same.horizontal_chars;
+  vertical_chars = sym same.vertical_chars;
+  horizontal_colors = sym same.horizontal_colors;
+  vertical_colors = sym same.vertical_colors;
+}
+
+-- why it is not drawn does not depend on how overrides are kept
+module _ (d : Drawing) where
+  abbrev by : SpannedConfig → Drawing
+  by config = record d { config = config }
+
+  room-there : (x y : SpannedConfig) → HoldTheSameSettings x y → (p : Position) → HasNoRoom (by x) p → HasNoRoom (by y) p
+  room-there x y same p none = record {
+    is_cell = subst (λ c. IsVisibleCell (layout_of (by c)) p) same.but_overrides none.is_cell;
+    lacks = subst (λ c. FitsPlace (block_at (by c) p) → ⊥) same.but_overrides none.lacks;
+  }
+
+  module _ (x y : SpannedConfig) (same : HoldTheSameSettings x y) where
+    tiled-there : IsTiled (layout_of (by x)) → IsTiled (layout_of (by y))
+    tiled-there tiled = subst (λ c. IsTiled (layout_of (by c))) same.but_overrides tiled
+
+    pub fault-there : (f : DrawError) → IsDrawFault (by x) f → IsDrawFault (by y) f
+    fault-there (OutOfTable p) fault = subst (λ c. IsDrawFault (by c) (OutOfTable p)) same.but_overrides fault
+    fault-there (NotTiled p) fault = subst (λ c. IsDrawFault (by c) (NotTiled p)) same.but_overrides fault
+    fault-there (NoRoom p) fault = (
+      tiled-there fault.0,
+      record {
+        it = room-there x y same p fault.1.it;
+        earlier = λ q before none. fault.1.earlier q before (room-there y x (other-way x y same) q none);
+      },
+    )
+    fault-there TooLarge fault = (
+      tiled-there fault.0,
+      λ p none. fault.1 p (room-there y x (other-way x y same) p none),
+      subst (λ c. IsWholeTooLarge (by c)) same.but_overrides fault.2,
+    )
+    fault-there (Memory e) fault = fault
+    fault-there Write fault = fault
+
 -- ---- one picture
 
 module _ (columns : ℕ) (texts : List (List (List ℕ))) (sizing : Sizing) where
@@ -138,7 +188,7 @@ module _ (columns : ℕ) (texts : List (List (List ℕ))) (sizing : Sizing) wher
   abbrev AreRefused : Grid → LayoutError → Type 0
   AreRefused grid e = IsBothRefused grid text_measure columns texts sizing e
 
-  sized-or-refused : (grid : Grid) (widths heights : List ℕ) (e : LayoutError) → IsRefusal (draw_error_of e) → AreSizes grid widths heights → AreRefused grid e → ⊥
+  pub sized-or-refused : (grid : Grid) (widths heights : List ℕ) (e : LayoutError) → IsRefusal (draw_error_of e) → AreSizes grid widths heights → AreRefused grid e → ⊥
   sized-or-refused grid widths heights (layout_errors.OutOfTable p) named are refused =
       let none = (none_overflows grid text_measure columns texts).1 ((room-of sizing _ widths are.widths).none_out, (room-of sizing _ heights are.heights).none_out) in
       cc (none, refused)
@@ -148,35 +198,13 @@ module _ (columns : ℕ) (texts : List (List (List ℕ))) (sizing : Sizing) wher
   ]
   sized-or-refused grid widths heights (layout_errors.Memory e) named are refused = named
 
-  one-error : (grid : Grid) (e f : LayoutError) → IsRefusal (draw_error_of e) → IsRefusal (draw_error_of f) → AreRefused grid e → AreRefused grid f → e ≡ f
+  pub one-error : (grid : Grid) (e f : LayoutError) → IsRefusal (draw_error_of e) → IsRefusal (draw_error_of f) → AreRefused grid e → AreRefused grid f → e ≡ f
   one-error grid (layout_errors.Memory e) f named other a b = absurd named
   one-error grid e (layout_errors.Memory f) named other a b = absurd other
   one-error grid (layout_errors.OutOfTable p) (layout_errors.OutOfTable q) named other a b = ap layout_errors.OutOfTable (same_Some p q (sym a ∙ b))
   one-error grid (layout_errors.OutOfTable p) layout_errors.TooLarge named other a b = absurd (cc (a, b.0))
   one-error grid layout_errors.TooLarge (layout_errors.OutOfTable q) named other a b = absurd (cc (b, a.0))
   one-error grid layout_errors.TooLarge layout_errors.TooLarge named other a b = refl
-
-  other-way : (x y : SpannedConfig) → HoldTheSameSettings x y → HoldTheSameSettings y x
-  other-way x y same = record {
-    but_overrides = λ i. record (sym same.but_overrides i) {
-      alloc = y.alloc;
-      horizontal_chars = y.horizontal_chars;
-      vertical_chars = y.vertical_chars;
-      horizontal_colors = y.horizontal_colors;
-      vertical_colors = y.vertical_colors;
-    };
-    horizontal_chars = sym same.horizontal_chars;
-    vertical_chars = sym same.vertical_chars;
-    horizontal_colors = sym same.horizontal_colors;
-    vertical_colors = sym same.vertical_colors;
-  }
-
-  -- a cell without room has none, however overrides are kept
-  room-there : (x y : SpannedConfig) → HoldTheSameSettings x y → (widths heights : List ℕ) (p : Position) → HasNoRoom (texts_drawing x texts widths heights) p → HasNoRoom (texts_drawing y texts widths heights) p
-  room-there x y same widths heights p none = record {
-    is_cell = subst (λ c. IsVisibleCell (layout_of (texts_drawing c texts widths heights)) p) same.but_overrides none.is_cell;
-    lacks = subst (λ c. FitsPlace (block_at (texts_drawing c texts widths heights) p) → ⊥) same.but_overrides none.lacks;
-  }
 
   -- by two configurations that hold the same
   module _ (x y : SpannedConfig) (same : HoldTheSameSettings x y) where
@@ -213,31 +241,9 @@ module _ (columns : ℕ) (texts : List (List (List ℕ))) (sizing : Sizing) wher
         } in
         ap layout_of a.is ∙ same_layout ∙ ap layout_of (sym b.is)
 
-    -- why it is not drawn does not depend on how overrides are kept
-    tiled-there : (widths heights : List ℕ) → IsTiled (layout_of (texts_drawing x texts widths heights)) → IsTiled (layout_of (texts_drawing y texts widths heights))
-    tiled-there widths heights tiled = subst (λ c. IsTiled (layout_of (texts_drawing c texts widths heights))) same.but_overrides tiled
-
-    by-other : (widths heights : List ℕ) (f : DrawError) → IsDrawFault (texts_drawing x texts widths heights) f → IsDrawFault (texts_drawing y texts widths heights) f
-    by-other widths heights (OutOfTable p) fault = subst (λ c. IsDrawFault (texts_drawing c texts widths heights) (OutOfTable p)) same.but_overrides fault
-    by-other widths heights (NotTiled p) fault = subst (λ c. IsDrawFault (texts_drawing c texts widths heights) (NotTiled p)) same.but_overrides fault
-    by-other widths heights (NoRoom p) fault = (
-      tiled-there widths heights fault.0,
-      record {
-        it = room-there x y same widths heights p fault.1.it;
-        earlier = λ q before none. fault.1.earlier q before (room-there y x (other-way x y same) widths heights q none);
-      },
-    )
-    by-other widths heights TooLarge fault = (
-      tiled-there widths heights fault.0,
-      λ p none. fault.1 p (room-there y x (other-way x y same) widths heights p none),
-      subst (λ c. IsWholeTooLarge (texts_drawing c texts widths heights)) same.but_overrides fault.2,
-    )
-    by-other widths heights (Memory e) fault = fault
-    by-other widths heights Write fault = fault
-
     pub same-fault : (d e : Drawing) → IsDrawingWith columns texts sizing x d → IsDrawingWith columns texts sizing y e → (f : DrawError) → IsDrawFault d f → IsDrawFault e f
     same-fault d e a b f fault =
-        let moved = by-other a.widths a.heights f (subst (λ k. IsDrawFault k f) a.is fault) in
+        let moved = fault-there (texts_drawing x texts a.widths a.heights) x y same f (subst (λ k. IsDrawFault k f) a.is fault) in
         let sized = subst (λ widths. IsDrawFault (texts_drawing y texts widths a.heights) f) (one-widths d e a b) moved in
         let both = subst (λ heights. IsDrawFault (texts_drawing y texts b.widths heights) f) (one-heights d e a b) sized in
         subst (λ k. IsDrawFault k f) (sym b.is) both

@@ -1,9 +1,9 @@
 -- Crossings of lines, by which lines meet there.
-use Rattle.std.specs.Prelude.{◌≡◌, ◌≢◌, ◌≤◌, ◌<◌, ◌+◌, ◌-◌, ◌^◌, ◌⊎◌, ◌&&◌, ℕ, All, Bool, true, false, not, nat_lt, List, [], Option, None, Some}
+use Rattle.std.specs.Prelude.{◌≡◌, ◌≢◌, ◌↔◌, ◌≤◌, ◌<◌, ◌+◌, ◌-◌, ◌^◌, ◌⊎◌, ◌&&◌, ℕ, All, AllPairs, Bool, Contains, map, true, false, not, nat_lt, List, [], Option, None, Some}
 use Rattle.std.specs.Option.{option_eq}
 use Rattle.papergrid_values.specs.Borders.{border_with}
 use Rattle.papergrid_values.specs.MapKeys.{position_eq}
-use Rattle.papergrid_values.specs.Positions.{position_of}
+use Rattle.papergrid_values.specs.Positions.{IsBefore, position_of}
 use Rattle.papergrid_values.specs.declared.border.Border.{Border}
 use Rattle.papergrid_values.specs.declared.borders.Borders.{Borders}
 use Rattle.papergrid_values.specs.declared.position.Position.{Position}
@@ -99,12 +99,16 @@ bare_drawing config shape = record {
   color = λ _. None;
 }
 
--- a setting gives one crossing the character that joins the lines which meet there; it has another one
-abbrev pub SetsCrossing : SpannedConfig → ℕ × ℕ → Junctions → Setting → Type 0
-SetsCrossing config shape junctions setting =
-    (p : Position) × (character : ℕ) × (setting ≡ SetBorder p (corner_border character))
-    × (crossing_character config shape p ≢ character)
-    × (junction_at junctions (bare_drawing config shape) p.row p.col ≡ Some character)
+-- a crossing that is seen has another character than this one, which joins the lines that meet there
+pub record IsUnfit (config : SpannedConfig) (shape : ℕ × ℕ) (junctions : Junctions) (p : Position) (character : ℕ)
+    : Type 0 where
+  pub seen : IsSeenCrossing (bare_drawing config shape) p.row p.col
+  pub joins : junction_at junctions (bare_drawing config shape) p.row p.col ≡ Some character
+  pub other : crossing_character config shape p ≢ character
+
+-- the setting that gives a crossing a character
+abbrev pub crossing_setting : Position × ℕ → Setting
+crossing_setting crossing = SetBorder crossing.0 (corner_border crossing.1)
 
 -- a configuration made by settings becomes the other by further ones
 pub record BecomesBy (old new : SpannedConfig) (further : List Setting) : Type 0 where
@@ -119,14 +123,17 @@ pub record DifferInCrossings (old new : SpannedConfig) : Type 0 where
       ≡ record (parts_of_borders old.characters) { corner = (parts_of_borders new.characters).corner }
 
 -- these settings fit the crossings of a configuration, in a table of so many rows and columns that its spans tile, to the
--- lines that meet there. They set single crossings that have another character. Where they are added to it, each crossing
--- that is seen has the character of its lines. There are none for a table without rows or columns
+-- lines that meet there. They are those of the crossings that have another character, each once, by row and then by
+-- column. Where they are added to it, each crossing that is seen has the character of its lines
 pub record FitCrossings (config : SpannedConfig) (shape : ℕ × ℕ) (junctions : Junctions) (settings : List Setting)
     : Type 0 where
   pub tiled : IsTiled (layout_of (bare_drawing config shape))
   pub counted : (shape.0 + 1 < 2 ^ 64) × (shape.1 + 1 < 2 ^ 64)
-  pub none : (shape.0 ≡ 0) ⊎ (shape.1 ≡ 0) → settings ≡ []
-  pub corners : All (SetsCrossing config shape junctions) settings
+  pub crossings : List (Position × ℕ)
+  pub are : settings ≡ map crossing_setting crossings
+  pub each : (p : Position) (character : ℕ) →
+      Contains crossings (p, character) ↔ IsUnfit config shape junctions p character
+  pub ascending : AllPairs (λ a b. IsBefore a.0 b.0) crossings
   pub in_range : All (λ setting. is_in_range setting ≡ true) settings
   pub keeps : (new : SpannedConfig) → BecomesBy config new settings → DifferInCrossings config new
   pub lines : (new : SpannedConfig) → BecomesBy config new settings → (d e : Drawing) → d.config ≡ config → e.config ≡ new →

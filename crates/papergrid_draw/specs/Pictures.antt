@@ -1,12 +1,12 @@
 -- The pictures of texts: the drawing by a configuration, or by settings that tell one, and why there is none.
-use Rattle.std.specs.Prelude.{◌≡◌, ℕ, List, None, length, map, slice_index}
+use Rattle.std.specs.Prelude.{◌≡◌, ℕ, List, None, map}
 use Rattle.papergrid_text.specs.HeldRows.{rows_held}
 use Rattle.papergrid_text.specs.declared.vec_records.VecRecords.{VecRecords}
 use Rattle.papergrid_config.specs.declared.setting.Setting.{Setting}
 use Rattle.papergrid_config.specs.declared.spanned.SpannedConfig.{SpannedConfig}
 use Rattle.papergrid_tracks.specs.declared.sizing.Sizing.{Sizing}
 use Rattle.papergrid_tracks.specs.declared.error.LayoutError.{LayoutError}
-use Rattle.papergrid_draw.specs.Drawings.{Drawing}
+use Rattle.papergrid_draw.specs.Drawings.{Drawing, drawn_of}
 use Rattle.papergrid_draw.specs.Errors.{draw_error_of}
 use Rattle.papergrid_draw.specs.Faults.{IsDrawFault}
 use Rattle.papergrid_draw.specs.declared.error.DrawError.{DrawError}
@@ -22,14 +22,8 @@ texts_held text records = map (λ row. map text row.items) (rows_held records).i
 
 -- the drawing of rows of texts by a configuration, with these widths and heights
 abbrev pub texts_drawing : SpannedConfig → List (List (List ℕ)) → List ℕ → List ℕ → Drawing
-texts_drawing config texts widths heights = record {
-  config = config;
-  widths = slice_index widths;
-  heights = slice_index heights;
-  shape = (length heights, length widths);
-  lines = lines_at text_lines texts;
-  color = λ _. None;
-}
+texts_drawing config texts widths heights =
+    drawn_of (lines_at text_lines) (λ _ _. None) (record { config = config; widths = widths; heights = heights }) texts
 
 module _ (columns : ℕ) (texts : List (List (List ℕ))) (sizing : Sizing) where
   -- the drawing of these texts by a configuration, with the sizes that are chosen so

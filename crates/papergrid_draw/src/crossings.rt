@@ -7,8 +7,8 @@ ghost use Rattle.papergrid_layout.specs.Places.{TableView};
 ghost use Rattle.papergrid_draw.specs.Drawings.{layout_of};
 ghost use Rattle.papergrid_draw.specs.Drawn.{draws_horizontal, draws_vertical, stands_over, stands_over_crossing};
 ghost use Rattle.papergrid_draw.specs.Tiles.{IsTablePosition, IsTiled, owner};
-ghost use Rattle.papergrid_draw.specs.Crossings.{AreOfFrame, FitCrossings, IsFitFault, bare_drawing, junction, junction_at};
-ghost use Rattle.papergrid_draw.specs.ForProofs.Crossings.{AreFittedBefore, AreOwners, FitsAlready, HasMark, IsCrossingLine, goes_over};
+ghost use Rattle.papergrid_draw.specs.Crossings.{AreOfFrame, FitCrossings, IsFitFault, IsUnfit, bare_drawing, junction, junction_at};
+ghost use Rattle.papergrid_draw.specs.ForProofs.Crossings.{AreFittedBefore, AreOwners, FitsAlready, IsCrossingLine, goes_over};
 
 use crate::error::DrawError;
 use crate::tiles::check_tiles;
@@ -190,7 +190,8 @@ impl Line<'_> {
         requires inside { column ≤ self.now.shape.1 }
         ensures { MatchOption result
             (FitsAlready self.now.config.now self.now.shape junctions.now self.now.row column)
-            (HasMark self.now.config.now self.now.shape junctions.now self.now.row column) }
+            (IsUnfit self.now.config.now self.now.shape junctions.now
+            (position_of (self.now.row, column))) }
     {
         if !self.config.has_vertical(column, self.shape.1) || self.is_crossing_under(column) {
             return None;
@@ -269,6 +270,7 @@ fn fit_lines(
 ) -> Result<Vec<Setting>, AllocError>
     requires tiled { IsTiled (layout_of (bare_drawing config.now shape)) }
     requires room { (shape.0 + 1 < 2 ^ 64) × (shape.1 + 1 < 2 ^ 64) }
+    requires some { (0 < shape.0) × (0 < shape.1) }
     ensures { IfOk result (λ settings. AreFittedBefore config.now shape junctions.now
         (shape.0 + 1) 0 settings.items) }
 {
@@ -299,7 +301,7 @@ fn can_be_counted(shape: (usize, usize)) -> bool
 }
 
 /// The settings by which each crossing of a table of so many rows and columns has the character of the lines that meet
-/// there. They set crossings alone, those that have another character. They change no line. A table without rows or
+/// there: one for each crossing that is seen and has another character, by row and then by column. They change no line. A table without rows or
 /// columns has none. It allocates two owners a column and the list, and takes time that grows with the positions and the
 /// spans.
 ///

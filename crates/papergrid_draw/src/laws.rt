@@ -11,6 +11,7 @@ ghost use Rattle.papergrid_config.specs.ConfigSame.{HoldTheSameSettings};
 ghost use Rattle.papergrid_config.specs.Grids.{spanned_grid};
 ghost use Rattle.papergrid_config.specs.History.{HasSettingHistory};
 ghost use Rattle.papergrid_config.specs.declared.setting.Setting.{Setting};
+ghost use Rattle.papergrid_config.specs.declared.spanned.SpannedConfig.{SpannedConfig};
 ghost use Rattle.papergrid_text.specs.Text.{width_of};
 ghost use Rattle.papergrid_tracks.specs.Fits.{Fits};
 ghost use Rattle.papergrid_walk.specs.Cells.{problem_of};
@@ -21,6 +22,7 @@ ghost use Rattle.papergrid_draw.specs.Bytes.{line_bytes};
 ghost use Rattle.papergrid_draw.specs.Characters.{crossing, segment, vertical};
 ghost use Rattle.papergrid_draw.specs.Colored.{AreAlikeButColors, AreInBlocks, inks_of, uncolored};
 ghost use Rattle.papergrid_draw.specs.Contents.{Block, above, before, block_at, content, shown, shown_line};
+ghost use Rattle.papergrid_draw.specs.Crossings.{FitCrossings, IsFitFault};
 ghost use Rattle.papergrid_draw.specs.Drawings.{Drawing, layout_of};
 ghost use Rattle.papergrid_draw.specs.Drawn.{DrawnLine, drawn_lines, draws_horizontal, draws_vertical, owner_at, stands_over, stands_over_crossing};
 ghost use Rattle.papergrid_draw.specs.Faults.{AllHaveRoom, IsDrawFault, IsDrawable, whole_height};
@@ -33,9 +35,13 @@ ghost use Rattle.papergrid_draw.specs.Separated.{AreApart, HasSeparators, IsHone
 ghost use Rattle.papergrid_draw.specs.Sources.{IsOfCell, IsOfTable};
 ghost use Rattle.papergrid_draw.specs.Sinks.{IsRefusal};
 ghost use Rattle.papergrid_draw.specs.Tiles.{IsTiled};
+ghost use Rattle.papergrid_draw.specs.declared.crossings.Junctions.{Junctions};
 ghost use Rattle.papergrid_draw.specs.declared.error.DrawError.{DrawError};
+ghost use Rattle.papergrid_draw.specs.declared.room.Room.{Room};
 ghost use Rattle.papergrid_tracks.specs.declared.sizing.Sizing.{Sizing};
 
+use crate::crossings::Junctions;
+use crate::room::Room;
 use papergrid_config::laws::{equal_by_history, equal_configurations};
 
 /// A picture has as many lines as its table is high, with both margins, and a line feed between two. That of a table
@@ -241,6 +247,27 @@ pub fn one_picture()
     equal_by_history();
     equal_configurations();
 }
+
+/// A clone equals its original.
+pub fn equal_clones()
+    ensures junctions { (x y : Junctions) → ⟦<Junctions as Clone>⟧.is_clone x y → y ≡ x }
+    ensures room { (x y : Room) → ⟦<Room as Clone>⟧.is_clone x y → y ≡ x }
+{}
+
+/// The crossings of configurations that hold the same are fitted by the same settings and by no others, or there is the
+/// same reason why they have none, and never both.
+pub fn one_fit()
+    ensures settings { (x y : SpannedConfig) (shape : ℕ × ℕ) (junctions : Junctions)
+        (settings other : List Setting) → HoldTheSameSettings x y →
+        FitCrossings x shape junctions settings → FitCrossings y shape junctions other →
+        settings ≡ other }
+    ensures fitted { (x y : SpannedConfig) (shape : ℕ × ℕ) (junctions : Junctions)
+        (settings : List Setting) (e : DrawError) → HoldTheSameSettings x y → IsRefusal e →
+        FitCrossings x shape junctions settings → IsFitFault y shape e → ⊥ }
+    ensures refused { (x y : SpannedConfig) (shape : ℕ × ℕ) (e f : DrawError) →
+        HoldTheSameSettings x y → IsRefusal e → IsRefusal f →
+        IsFitFault x shape e → IsFitFault y shape f → e ≡ f }
+{}
 
 /// Tables that hold the same have the same picture: how their settings came about, and how they are kept, makes no
 /// difference.

@@ -1,5 +1,6 @@
 pub mod DrawLemmas
 pub mod EachLemmas
+pub mod OneLemmas
 pub mod PartLemmas
 pub mod RecordLemmas
 pub mod SpotLemmas

@@ -1,5 +1,5 @@
 -- The picture of a document.
-use Rattle.std.specs.Prelude.{◌≡◌, ℕ, List, Option, None, Some, Result, Ok, Err, length, slice_index}
+use Rattle.std.specs.Prelude.{◌≡◌, ℕ, List, Option, None, Some, Result, Ok, Err}
 use Rattle.std.specs.BTreeMap.{get}
 use Rattle.papergrid_values.specs.MapKeys.{position_cmp}
 use Rattle.papergrid_config.specs.declared.spanned.SpannedConfig.{SpannedConfig}
@@ -7,7 +7,7 @@ use Rattle.papergrid_layout.specs.Tables.{IsTotalTooLarge, TableParts, view_of}
 use Rattle.papergrid_tracks.specs.declared.sizing.Sizing.{Sizing}
 use Rattle.papergrid_tracks.specs.declared.error.LayoutError.{LayoutError}
 use Rattle.papergrid_tracks.specs.declared.error.LayoutError.TheVariants.{TooLarge}
-use Rattle.papergrid_draw.specs.Drawings.{Drawing}
+use Rattle.papergrid_draw.specs.Drawings.{Drawing, drawn_of}
 use Rattle.papergrid_draw.specs.Errors.{draw_error_of}
 use Rattle.papergrid_draw.specs.Faults.{IsDrawFault}
 use Rattle.papergrid_draw.specs.declared.error.DrawError.{DrawError}
@@ -22,14 +22,9 @@ use Rattle.papergrid_config.specs.Grids.{spanned_grid}
 
 -- its drawing by a configuration, with these widths and heights: its texts, in its colours
 abbrev pub document_drawing : SpannedConfig → Document → List ℕ → List ℕ → Drawing
-document_drawing config document widths heights = record {
-  config = config;
-  widths = slice_index widths;
-  heights = slice_index heights;
-  shape = (length heights, length widths);
-  lines = lines_at text_lines (document_texts document);
-  color = get position_cmp document.colors;
-}
+document_drawing config document widths heights =
+    drawn_of (lines_at text_lines) (λ _. get position_cmp document.colors) (record { config = config; widths = widths; heights = heights })
+    (document_texts document)
 
 module _ (document : Document) (sizing : Sizing) where
   module _ (config : SpannedConfig) where

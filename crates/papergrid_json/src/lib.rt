@@ -6,6 +6,7 @@ mod document;
 mod drawing;
 mod error;
 mod forms;
+pub mod laws;
 mod parts;
 mod path;
 mod setting;

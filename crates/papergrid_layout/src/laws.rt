@@ -11,18 +11,19 @@ ghost use Rattle.papergrid_tracks.specs.Answers.{AreSizes, IsAccepted};
 ghost use Rattle.papergrid_tracks.specs.Fits.{Fits, IsLeast};
 ghost use Rattle.papergrid_tracks.specs.Problem.{Problem, total_of};
 ghost use Rattle.papergrid_tracks.specs.Ranges.{IsLaminar, first_out};
+ghost use Rattle.papergrid_tracks.specs.Sizes.{sizes_of};
 ghost use Rattle.papergrid_tracks.specs.LeastAnswers.{AreLeastSizes, AreCriticalPath};
 ghost use Rattle.papergrid_config.specs.History.{HasSettingHistory};
 ghost use Rattle.papergrid_config.specs.declared.setting.Setting.{Setting};
 ghost use Rattle.papergrid_config.specs.declared.spanned.SpannedConfig.{SpannedConfig};
-ghost use Rattle.papergrid_walk.specs.Cells.{demand_by, demands_of, positioned_cells, problem_of, visible_cells};
+ghost use Rattle.papergrid_walk.specs.Cells.{demand_by, demands_of, positioned_cells, problem_of, problem_with, visible_cells};
 ghost use Rattle.papergrid_maps.specs.Grids.{Grid};
 ghost use Rattle.papergrid_config.specs.Grids.{spanned_grid};
 ghost use Rattle.papergrid_walk.specs.Measures.{cell_measure, line_measure};
 ghost use Rattle.papergrid_layout.specs.Answers.{AreBothSizes, HoldAlong, first_out_of_table};
 ghost use Rattle.papergrid_tracks.specs.Sizings.{IsTotal};
 ghost use Rattle.papergrid_tracks.specs.declared.sizing.Sizing.{Sizing};
-ghost use Rattle.papergrid_layout.specs.Laws.{AreReordered, AreSwapped, HaveRoom, IsCellAt, IsNewText, TellTheSame, sizes_told};
+ghost use Rattle.papergrid_layout.specs.Laws.{AreReordered, HaveRoom, IsCellAt, IsNewText, TellTheSame};
 ghost use Rattle.papergrid_layout.specs.Places.{DoNotMeet, HasRoomAtPlace, HaveNoneInCommon, IsInsideTable, IsPlaced, StandsOver, TableView, place_at, sized_table, total_along};
 ghost use Rattle.papergrid_tracks.specs.declared.error.LayoutError.{LayoutError};
 ghost use Rattle.papergrid_layout.specs.declared.rect.Place.{Place};
@@ -56,16 +57,14 @@ pub fn cells_by_position<C>()
         AllPairs (λ x y. IsBefore x.0 y.0) (positioned_cells rows) }
 {}
 
-/// Sizes do not depend on the order in which spans of different cells were set, side by side or
-/// anywhere in a list, since what is read of a configuration depends only on what the settings make.
+/// Sizes do not depend on the order in which spans of different cells were set, anywhere in a list,
+/// since what is read of a configuration depends only on what the settings make.
 pub fn order_of_spans<C>()
-    ensures sizes { (settings other : List Setting) → AreSwapped settings other →
+    ensures sizes { (settings other : List Setting) → AreReordered settings other →
         (x y : SpannedConfig) → HasSettingHistory settings x → HasSettingHistory other y →
         (direction : Direction) (measure : C → ℕ × ℕ) (n : ℕ) (rows : List (List C)) →
-        sizes_told direction (spanned_grid x) measure n rows
-        ≡ sizes_told direction (spanned_grid y) measure n rows }
-    ensures swapped { (settings other : List Setting) → AreSwapped settings other →
-        TellTheSame settings other }
+        sizes_of (problem_with (spanned_grid x) measure direction n rows)
+        ≡ sizes_of (problem_with (spanned_grid y) measure direction n rows) }
     ensures reordered { (settings other : List Setting) → AreReordered settings other →
         TellTheSame settings other }
     ensures read { (settings other : List Setting) → TellTheSame settings other →

@@ -1,6 +1,6 @@
 //! The names of styles.
 
-ghost use Rattle.std.specs.Prelude.{◌≡◌};
+ghost use Rattle.std.specs.Prelude.{◌≡◌, Some};
 ghost use Rattle.papergrid_table.specs.Values.{style_named};
 
 use papergrid_csv::Style;
@@ -33,7 +33,10 @@ pub fn style_named(name: &str) -> Option<Style>
 }
 
 /// The name of a style.
-pub fn name_of(style: Style) -> &'static str {
+#[tactic(auto, unfolding(crate::specs::Values::style_named))]
+pub fn name_of(style: Style) -> &'static str
+    ensures { style_named result.now ≡ Some style }
+{
     match style {
         Style::Rounded => "rounded",
         Style::Ascii => "ascii",

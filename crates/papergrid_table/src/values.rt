@@ -1,6 +1,6 @@
 //! What the values of options say, and how they are spelled in messages.
 
-ghost use Rattle.std.specs.Prelude.{◌≡◌, IfOk, option_map};
+ghost use Rattle.std.specs.Prelude.{◌≡◌, IfOk, Some, option_map};
 ghost use Rattle.papergrid_script.specs.Settings.{spaced_sides};
 ghost use Rattle.papergrid_table.specs.Arguments.{column_told, width_told};
 ghost use Rattle.papergrid_table.specs.Values.{alignment_named, column_number, columns_aligned, delimiter_told, four_sides, padding_told, span_size, span_told, vertical_named};
@@ -25,7 +25,10 @@ pub fn alignment_of(name: &str) -> Option<Alignment>
 }
 
 /// The name of an alignment.
-pub fn alignment_name(alignment: Alignment) -> &'static str {
+#[tactic(auto, unfolding(crate::specs::Values::alignment_named))]
+pub fn alignment_name(alignment: Alignment) -> &'static str
+    ensures { alignment_named result.now ≡ Some alignment }
+{
     match alignment {
         Alignment::Fixed(AlignmentHorizontal::Left) => "left",
         Alignment::Fixed(AlignmentHorizontal::Center) => "center",

@@ -1,4 +1,3 @@
-pub mod Counted
 pub mod Cut
 pub mod ForProofs
 pub mod Held

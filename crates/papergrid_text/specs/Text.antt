@@ -1,6 +1,6 @@
 -- The lines of a text, its measures and its tabs. A text is the list of its bytes. Byte 9 is a tab,
 -- 10 a newline, 13 a carriage return, 32 a space and 92 a backslash.
-use Rattle.std.specs.Prelude.{◌≡◌, ◌≢◌, ℕ, ◌+◌, ◌<◌, ◌==◌, ◌&&◌, ◌||◌, List, [], ◌∷◌, ◌++◌, Option, Some, None, length, map, max, not, if◌then◌else◌, Bool, false, replicate, chars, count_by}
+use Rattle.std.specs.Prelude.{◌≡◌, ◌≢◌, ℕ, ◌<◌, ◌==◌, ◌&&◌, ◌||◌, List, [], ◌∷◌, ◌++◌, Option, Some, None, length, map, max, not, if◌then◌else◌, Bool, false, replicate, chars}
 use Rattle.std.specs.List.{slice_split, join_with_byte, All, flat_map, zip}
 use Rattle.std.specs.Str.{encode_utf8_all}
 use Rattle.std.specs.Str.Lines.{lines}

@@ -2,7 +2,6 @@
 
 ghost use Rattle.std.specs.Prelude.{◌≡◌, ⊤};
 ghost use Rattle.std.specs.Borrow.{Bor};
-ghost use Rattle.papergrid_text.specs.Counted.{rows_iterated, iter_records_of, counted_rows, counted_columns, row_hint};
 ghost use Rattle.papergrid_text.specs.Records.{WalkIsShort, GivesRows};
 
 use crate::records::{IntoRecords, Records};
@@ -18,7 +17,7 @@ impl<I> RowIter<I> {
     /// The rows that the iterator gives. They are lawful where it may be called and ends, with fewer than
     /// 2^64 items, and so does the walk over each item.
     pub fn new(iter: I) -> RowIter<I>
-        ensures { rows_iterated result ≡ iter }
+        ensures { result.iter ≡ iter }
     {
         RowIter { iter }
     }
@@ -38,10 +37,10 @@ where
     ghost is_lawful = { λ s. WalkIsShort (λ w it. it ≡ w) I.can_next I.remaining I.next_gives
         (WalkIsShort I.Item.into_iter_gives I.Item.IntoIter.can_next I.Item.IntoIter.remaining
         I.Item.IntoIter.next_gives (λ _. ⊤))
-        (rows_iterated s) };
+        s.iter };
 
     ghost tells = { λ s cells. GivesRows (λ w it. it ≡ w) I.next_gives I.Item.into_iter_gives
-        I.Item.IntoIter.next_gives (rows_iterated s) cells };
+        I.Item.IntoIter.next_gives s.iter cells };
 
     fn iter_rows(self) -> I {
         self.iter
@@ -60,7 +59,8 @@ impl<I> IterRecords<I> {
     /// Records with this number of columns, and a number of rows where one is known. They are lawful where
     /// what is walked is. Neither number is checked.
     pub fn new(iter: I, count_columns: usize, count_rows: Option<usize>) -> IterRecords<I>
-        ensures { result ≡ iter_records_of iter count_columns count_rows }
+        ensures { result
+            ≡ record { iter = iter; count_columns = count_columns; count_rows = count_rows } }
     {
         IterRecords {
             iter,
@@ -77,9 +77,9 @@ impl<I: IntoRecords + Drop> IntoRecords for IterRecords<I> {
 
     type IterRows = I::IterRows;
 
-    ghost is_lawful = { λ s. I.is_lawful (counted_rows s) };
+    ghost is_lawful = { λ s. I.is_lawful s.iter };
 
-    ghost tells = { λ s cells. I.tells (counted_rows s) cells };
+    ghost tells = { λ s cells. I.tells s.iter cells };
 
     fn iter_rows(self) -> I::IterRows {
         self.iter.iter_rows()
@@ -89,13 +89,13 @@ impl<I: IntoRecords + Drop> IntoRecords for IterRecords<I> {
 impl<I: IntoRecords + Drop> Records for IterRecords<I> {
     type Iter = I;
 
-    ghost is_lawful = { λ s. I.is_lawful (counted_rows s) };
+    ghost is_lawful = { λ s. I.is_lawful s.iter };
 
-    ghost tells = { λ s cells. I.tells (counted_rows s) cells };
+    ghost tells = { λ s cells. I.tells s.iter cells };
 
-    ghost columns = { λ s. counted_columns s };
+    ghost columns = { λ s. s.count_columns };
 
-    ghost hint = { λ s. row_hint s };
+    ghost hint = { λ s. s.count_rows };
 
     fn iter_rows(self) -> <I as IntoRecords>::IterRows {
         self.iter.iter_rows()
@@ -116,15 +116,15 @@ where
 {
     type Iter = &'a I;
 
-    ghost is_lawful = { λ s. (lent : Bor I) → lent.now ≡ counted_rows s.now →
+    ghost is_lawful = { λ s. (lent : Bor I) → lent.now ≡ s.now.iter →
         ⟦<&'a I as IntoRecords>⟧.is_lawful lent };
 
-    ghost tells = { λ s cells. (lent : Bor I) × (lent.now ≡ counted_rows s.now)
+    ghost tells = { λ s cells. (lent : Bor I) × (lent.now ≡ s.now.iter)
         × ⟦<&'a I as IntoRecords>⟧.tells lent cells };
 
-    ghost columns = { λ s. counted_columns s.now };
+    ghost columns = { λ s. s.now.count_columns };
 
-    ghost hint = { λ s. row_hint s.now };
+    ghost hint = { λ s. s.now.count_rows };
 
     fn iter_rows(self) -> <&'a I as IntoRecords>::IterRows {
         (&self.iter).iter_rows()

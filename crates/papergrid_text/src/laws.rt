@@ -18,7 +18,6 @@ ghost use Rattle.papergrid_text.specs.declared.iter_records.RowIter.{RowIter};
 ghost use Rattle.papergrid_text.specs.declared.line_cache.StrWithWidth.{StrWithWidth};
 ghost use Rattle.papergrid_text.specs.declared.string.Lines.{Lines};
 ghost use Rattle.papergrid_text.specs.declared.vec_records.VecRecords.{VecRecords};
-ghost use Rattle.papergrid_text.specs.Counted.{counted_columns, counted_rows, row_hint, rows_of_iterator};
 ghost use Rattle.papergrid_text.specs.Cut.{cut_rows, cut_whole_rows};
 ghost use Rattle.papergrid_text.specs.HeldRows.{column_count, row_count, rows_held};
 ghost use Rattle.papergrid_text.specs.LineCache.{given_line};
@@ -107,9 +106,9 @@ pub fn equal_by_fields<T: PartialEq>()
         ∷ nat_eq (row_count x) (row_count y) ∷ nat_eq (column_count x) (column_count y) ∷ []) }
     ensures counted { (x y : IterRecords T) →
         ⟦<IterRecords<T> as PartialEq>⟧.eq x y ≡ list_all (λ same. same) (
-        T.eq (counted_rows x) (counted_rows y)
-        ∷ nat_eq (counted_columns x) (counted_columns y)
-        ∷ option_eq nat_eq (row_hint x) (row_hint y) ∷ []) }
+        T.eq x.iter y.iter
+        ∷ nat_eq x.count_columns y.count_columns
+        ∷ option_eq nat_eq x.count_rows y.count_rows ∷ []) }
 {}
 
 /// Records are ordered by what gives their rows and then by the numbers that they tell: those that
@@ -122,9 +121,9 @@ pub fn ordered_by_fields<T: Ord>()
         (nat_cmp (column_count x) (column_count y))) }
     ensures counted { (x y : IterRecords T) →
         ⟦<IterRecords<T> as Ord>⟧.cmp x y
-        ≡ ordering_then (T.cmp (counted_rows x) (counted_rows y))
-        (ordering_then (nat_cmp (counted_columns x) (counted_columns y))
-        (option_cmp nat_cmp (row_hint x) (row_hint y))) }
+        ≡ ordering_then (T.cmp x.iter y.iter)
+        (ordering_then (nat_cmp x.count_columns y.count_columns)
+        (option_cmp nat_cmp x.count_rows y.count_rows)) }
 {}
 
 /// Records that hold their rows hash the rows, then the number of rows and that of columns.
@@ -163,9 +162,9 @@ pub fn vector_tells_cells<'a, T: 'a>()
 /// cells are those of the vectors that are left.
 pub fn vectors_tell_rows<'a, T: 'a>()
     ensures lawful { (iter : Iter (Vec T Global)) → length (iter_rest iter) < 2 ^ 64 →
-        ⟦<RowIter<Iter<'a, Vec<T>>> as IntoRecords>⟧.is_lawful (rows_of_iterator iter) }
+        ⟦<RowIter<Iter<'a, Vec<T>>> as IntoRecords>⟧.is_lawful (record { iter = iter }) }
     ensures told { (iter : Iter (Vec T Global)) (cells : List (List (Bor T))) →
-        ⟦<RowIter<Iter<'a, Vec<T>>> as IntoRecords>⟧.tells (rows_of_iterator iter) cells →
+        ⟦<RowIter<Iter<'a, Vec<T>>> as IntoRecords>⟧.tells (record { iter = iter }) cells →
         map (map (λ cell. cell.now)) cells ≡ map (λ row. row.items) (iter_rest iter) }
 {}
 
@@ -175,10 +174,10 @@ pub fn vectors_tell_rows<'a, T: 'a>()
 pub fn chunks_tell_rows<'a, T: 'a>()
     ensures lawful { (chunks : Chunks T) →
         0 < chunks_size chunks → length (chunks_rest chunks) < 2 ^ 64 →
-        ⟦<RowIter<Chunks<'a, T>> as IntoRecords>⟧.is_lawful (rows_of_iterator chunks) }
+        ⟦<RowIter<Chunks<'a, T>> as IntoRecords>⟧.is_lawful (record { iter = chunks }) }
     ensures told { (chunks : Chunks T) (cells : List (List (Bor T))) →
         0 < chunks_size chunks →
-        ⟦<RowIter<Chunks<'a, T>> as IntoRecords>⟧.tells (rows_of_iterator chunks) cells →
+        ⟦<RowIter<Chunks<'a, T>> as IntoRecords>⟧.tells (record { iter = chunks }) cells →
         map (map (λ cell. cell.now)) cells
         ≡ cut_rows (chunks_size chunks) (chunks_rest chunks) }
 {}
@@ -189,10 +188,10 @@ pub fn chunks_tell_rows<'a, T: 'a>()
 pub fn exact_chunks_tell_rows<'a, T: 'a>()
     ensures lawful { (chunks : ChunksExact T) →
         0 < chunks_exact_size chunks → length (chunks_exact_rest chunks) < 2 ^ 64 →
-        ⟦<RowIter<ChunksExact<'a, T>> as IntoRecords>⟧.is_lawful (rows_of_iterator chunks) }
+        ⟦<RowIter<ChunksExact<'a, T>> as IntoRecords>⟧.is_lawful (record { iter = chunks }) }
     ensures told { (chunks : ChunksExact T) (cells : List (List (Bor T))) →
         0 < chunks_exact_size chunks →
-        ⟦<RowIter<ChunksExact<'a, T>> as IntoRecords>⟧.tells (rows_of_iterator chunks) cells →
+        ⟦<RowIter<ChunksExact<'a, T>> as IntoRecords>⟧.tells (record { iter = chunks }) cells →
         map (map (λ cell. cell.now)) cells
         ≡ cut_whole_rows (chunks_exact_size chunks) (chunks_exact_rest chunks) }
 {}

@@ -16,10 +16,6 @@ abbrev pub EachSet : {T : Type 0} → (T → Type 0) → List (Option T) → Typ
 EachSet P [] = ⊤
 EachSet P (part ∷ parts) = ForSome part P × EachSet P parts
 
--- a part gave none where it is unset, and else one that R relates to it
-abbrev pub PartGives : {A B : Type 0} → (A → B → Type 0) → Option A → Option B → Type 0
-PartGives R old new = MatchOption old (new ≡ None) (λ x. IsSomeAnd new (R x))
-
--- each part gave the one in its place
+-- each part gave the one in its place: none where it is unset, and else one that R relates to it
 abbrev pub PartsGive : {A B : Type 0} → (A → B → Type 0) → List (Option A) → List (Option B) → Type 0
-PartsGive R = AllZip (PartGives R)
+PartsGive R = AllZip (λ old new. MatchOption old (new ≡ None) (λ x. IsSomeAnd new (R x)))

@@ -1,21 +1,19 @@
 -- Crossings that are fitted one after another, by row and then by column.
-use Rattle.std.specs.Prelude.{◌≡◌, ◌≢◌, ◌≤◌, ◌<◌, ◌-◌, ◌&&◌, ℕ, All, Bool, true, nat_lt, if◌then◌else◌, List, [], ◌∷◌, Option, None, Some, length, map, slice_index_or, unwrap_or}
+use Rattle.std.specs.Prelude.{◌≡◌, ◌≤◌, ◌<◌, ◌-◌, ◌&&◌, ℕ, All, AllPairs, Bool, true, nat_lt, if◌then◌else◌, List, [], ◌∷◌, Option, None, Some, length, map, slice_index_or, unwrap_or}
 use Rattle.std.specs.Option.{option_eq, option_or}
 use Rattle.papergrid_values.specs.MapKeys.{position_eq}
 use Rattle.papergrid_values.specs.Positions.{IsBefore, position_of}
 use Rattle.papergrid_values.specs.declared.position.Position.{Position}
 use Rattle.papergrid_tables.specs.BorderParts.{found_intersection}
-use Rattle.papergrid_tables.specs.LineTests.{horizontal_line_at, vertical_line_at}
 use Rattle.papergrid_tables.specs.StoredBorders.{parts_of_borders}
 use Rattle.papergrid_config.specs.Applied.{has_neighbours}
 use Rattle.papergrid_config.specs.declared.setting.Setting.{Setting}
-use Rattle.papergrid_config.specs.declared.setting.Setting.TheVariants.{SetBorder}
 use Rattle.papergrid_config.specs.declared.spanned.SpannedConfig.{SpannedConfig}
 use Rattle.papergrid_layout.specs.Places.{TableView}
 use Rattle.papergrid_draw.specs.Characters.{crossing_character}
 use Rattle.papergrid_draw.specs.Drawings.{layout_of}
 use Rattle.papergrid_draw.specs.Tiles.{owner}
-use Rattle.papergrid_draw.specs.Crossings.{IsSeenCrossing, bare_drawing, corner_border, junction_at}
+use Rattle.papergrid_draw.specs.Crossings.{IsSeenCrossing, IsUnfit, bare_drawing, crossing_setting, junction_at}
 use Rattle.papergrid_draw.specs.declared.crossings.Junctions.{Junctions}
 use Rattle.papergrid_draw.specs.declared.crossings.Line.{Line}
 
@@ -30,17 +28,15 @@ module _ (table : TableView) where
   goes_over r j = nat_lt 0 j && (nat_lt j table.shape.1
       && option_eq position_eq (owner table (position_of (r, j - 1))) (owner table (position_of (r, j))))
 
--- the owners above and below the line are those of the table
+-- the owners above and below the line are those of the table, which has rows and columns
 pub record IsCrossingLine (line : Line) : Type 0 where
+  pub has_rows : 0 < line.shape.0
+  pub has_columns : 0 < line.shape.1
   pub within : line.row ≤ line.shape.0
   pub many_above : length line.above.now ≡ line.shape.1
   pub many_below : length line.below.now ≡ line.shape.1
   pub above : 0 < line.row → AreOwners (layout_of (bare_drawing line.config.now line.shape)) (line.row - 1) line.above.now
   pub below : line.row < line.shape.0 → AreOwners (layout_of (bare_drawing line.config.now line.shape)) line.row line.below.now
-
--- the setting that gives a crossing a character
-abbrev pub setting_of : Position × ℕ → Setting
-setting_of mark = SetBorder mark.0 (corner_border mark.1)
 
 -- the character that the last of the marks at a position gives it
 abbrev pub mark_at : List (Position × ℕ) → Position → Option ℕ
@@ -59,26 +55,17 @@ module _ (config : SpannedConfig) (shape : ℕ × ℕ) where
     FitsAlready i j = IsSeenCrossing (bare_drawing config shape) i j →
         junction_at junctions (bare_drawing config shape) i j ≡ Some (crossing_character config shape (position_of (i, j)))
 
-    -- it is one of lines that are there, whose character is this, and it has another one
-    pub record HasMark (i j character : ℕ) : Type 0 where
-      pub horizontal : horizontal_line_at config.characters i shape.0 ≡ true
-      pub vertical : vertical_line_at config.characters j shape.1 ≡ true
-      pub joins : junction_at junctions (bare_drawing config shape) i j ≡ Some character
-      pub other : crossing_character config shape (position_of (i, j)) ≢ character
-
-    -- both lines of a marked crossing are there, their character is this, and it has another one
+    -- a marked crossing has another character than that of its lines
     pub record IsMark (mark : Position × ℕ) : Type 0 where
       pub in_range : has_neighbours mark.0 ≡ true
-      pub horizontal : horizontal_line_at config.characters mark.0.row shape.0 ≡ true
-      pub vertical : vertical_line_at config.characters mark.0.col shape.1 ≡ true
-      pub joins : junction_at junctions (bare_drawing config shape) mark.0.row mark.0.col ≡ Some mark.1
-      pub other : crossing_character config shape mark.0 ≢ mark.1
+      pub unfit : IsUnfit config shape junctions mark.0 mark.1
 
     -- the crossings before (i, j), by row and then by column, are fitted, and no later one is marked
     pub record AreFittedBefore (i j : ℕ) (settings : List Setting) : Type 0 where
       pub marks : List (Position × ℕ)
-      pub are : settings ≡ map setting_of marks
+      pub are : settings ≡ map crossing_setting marks
       pub each : All IsMark marks
-      pub later : (p : Position) → (IsBefore p (position_of (i, j)) → ⊥) → mark_at marks p ≡ None
+      pub ascending : AllPairs (λ a b. IsBefore a.0 b.0) marks
+      pub before : All (λ mark. IsBefore mark.0 (position_of (i, j))) marks
       pub fit : (r c : ℕ) → IsSeenCrossing (bare_drawing config shape) r c → IsBefore (position_of (r, c)) (position_of (i, j)) →
           junction_at junctions (bare_drawing config shape) r c ≡ Some (marked_character marks (position_of (r, c)))

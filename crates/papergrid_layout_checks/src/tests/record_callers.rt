@@ -2,7 +2,6 @@
 
 ghost use Rattle.std.specs.Prelude.{◌≡◌, ◌<◌, map, IfOk, string_bytes};
 ghost use Rattle.papergrid_layout_checks.specs.ColumnWidths.{greatest_widths};
-ghost use Rattle.papergrid_text.specs.Counted.{counted_rows, counted_columns};
 ghost use Rattle.papergrid_text.specs.Cut.{cut_rows, cut_whole_rows};
 ghost use Rattle.papergrid_text.specs.HeldRows.{rows_held, column_count};
 ghost use Rattle.papergrid_text.specs.Records.{TellsRows};
@@ -71,15 +70,15 @@ pub fn of_row_iter(alloc: Global, rows: &[Vec<String>], columns: usize) -> Width
 pub fn of_nested(alloc: Global, records: IterRecords<Vec<Vec<String>>>, columns: usize) -> Widths
     ensures { IfOk result (λ widths. widths.items ≡ greatest_widths columns
         (map (λ row. map (λ cell. text_width (string_bytes cell)) row.items)
-        (counted_rows records).items)) }
+        records.iter.items)) }
 {
     of_rows(alloc, records, columns)
 }
 
 pub fn of_lent_records(alloc: Global, records: &IterRecords<Vec<Vec<String>>>) -> Widths
-    ensures { IfOk result (λ widths. widths.items ≡ greatest_widths (counted_columns records.now)
+    ensures { IfOk result (λ widths. widths.items ≡ greatest_widths records.now.count_columns
         (map (λ row. map (λ cell. text_width (string_bytes cell)) row.items)
-        (counted_rows records.now).items)) }
+        records.now.iter.items)) }
 {
     widest(alloc, records)
 }

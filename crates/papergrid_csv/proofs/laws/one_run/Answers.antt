@@ -2,5 +2,5 @@ use Rattle.papergrid_csv.proofs.OneRunLemmas.{one-run}
 use Rattle.papergrid_csv.proofs.laws.one_run.Goals as goal
 
 pub returns : goal.returns
-returns c request input end other output bytes plain =
-    one-run request plain input (λ settings x y one another. (c.equal_configurations.ensures x y).0 (c.equal_by_history.ensures.told settings x y one another)) end other output bytes
+returns c request input =
+    one-run request input (λ settings x y one another. (c.equal_configurations.ensures x y).0 (c.equal_by_history.ensures.told settings x y one another))

@@ -9,7 +9,7 @@ use Rattle.papergrid_csv.proofs.shown.push_fields.Goals as goal
 pub loop-field-preserved : goal.loop-field-preserved
 loop-field-preserved c =
     zip-next (IsCut c.args.columns) (λ field. field.now) (λ field. field.now) c.args.row.now c.loop-field.field-index _ _ c.loop-field.shown.items _ c.in_ok-cut.field-0
-    c.loop-field-test.true refl c.loop-field.invariant c.in_ok-cut.ensures c.in_ok-push.ensures.items
+    c.loop-field-test.true refl c.loop-field.invariant c.in_ok-cut.ensures.cut c.in_ok-push.ensures.items
 
 pub returns : goal.returns
 returns c =

@@ -25,6 +25,8 @@ fit-requires-clause-line c =
     let many : length c.find_owners.new.owners ≡ vec_len c.loop-row.below = c.find_owners.auto.owners ∙ c.deref_mut.ensures.len in
     let upper : 0 < row → AreOwners table (row - 1) c.loop-row.above.items = λ begun. inv.2 begun within in
     record {
+      has_rows = c.requires.some.0;
+      has_columns = c.requires.some.1;
       within = within;
       many_above = c.deref-in-loop-row.ensures.len ∙ inv.0;
       many_below = c.deref-in-loop-row-2.ensures.len ∙ inv.1;

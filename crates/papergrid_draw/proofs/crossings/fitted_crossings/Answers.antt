@@ -1,4 +1,4 @@
-use Rattle.std.proofs.Common.{◌≡◌, sym, subst, refl, inl, inr, ℕ, ◌+◌, ◌^◌, ◌⊎◌, []}
+use Rattle.std.proofs.Common.{◌≡◌, sym, subst, refl, inl, inr, ℕ, ◌+◌, ◌^◌, ◌⊎◌, [], arith}
 use Rattle.std.proofs.lemmas.Bool.{cases_lt, false≢true}
 use Rattle.std.proofs.lemmas.Result.{err_from_is_err_and}
 use Rattle.papergrid_draw.specs.Drawings.{layout_of}
@@ -51,13 +51,15 @@ returns-then-shape-eq0-clause-ok c =
     ] in
     subst (FitCrossings config shape c.args.junctions.now) (sym c.new.ensures.items)
     (fit-all c.args.junctions.now [] config shape (fitted-empty config shape c.args.junctions.now (shape.0 + 1) none)
-    (c.in_ok-check_tiles.ensures.ok _ refl refl) (c.if-not-can_be_counted.ensures.0 refl) (λ _. refl))
+    (c.in_ok-check_tiles.ensures.ok _ refl refl) (c.if-not-can_be_counted.ensures.0 refl))
 
 pub fit_lines-requires-clause-tiled : goal.fit_lines-requires-clause-tiled
 fit_lines-requires-clause-tiled c = c.in_ok-check_tiles.ensures.ok _ refl refl
+
+pub fit_lines-requires-clause-some : goal.fit_lines-requires-clause-some
+fit_lines-requires-clause-some c = (omega (arith, c.if-shape-eq0.false), omega (arith, c.if-shape-eq0-2.false))
 
 pub returns-clause-ok : goal.returns-clause-ok
 returns-clause-ok c =
     fit-all c.args.junctions.now c.in_ok-fit_lines.field-0.items c.args.config.now c.args.shape c.in_ok-fit_lines.ensures
     (c.in_ok-check_tiles.ensures.ok _ refl refl) (c.if-not-can_be_counted.ensures.0 refl)
-    (λ none. absurd (elim none [ inl rows ↦ c.if-shape-eq0.false rows | inr columns ↦ c.if-shape-eq0-2.false columns ]))

@@ -30,8 +30,15 @@ returns-else-joining-character c =
     let character : c.unwrap_or-character.result ≡ crossing_character config shape (position_of (c.args.self.now.row, c.args.column))
     = character_shown _ _ _ c.unwrap_or-character.ensures c.get_intersection-found.ensures c.get_borders_missing.ensures in
     record {
-      horizontal = c.requires.horizontal;
-      vertical = sym c.has_vertical.ensures.test ∙ c.if-not-has_vertical.false;
+      seen = record {
+        has_rows = c.requires.line.has_rows;
+        has_columns = c.requires.line.has_columns;
+        row = c.requires.line.within;
+        col = c.requires.inside;
+        horizontal = c.requires.horizontal;
+        vertical = sym c.has_vertical.ensures.test ∙ c.if-not-has_vertical.false;
+        free = sym c.is_crossing_under.ensures ∙ c.if-is_crossing_under.false;
+      };
       joins = sym c.joining.ensures ∙ c.in_ok-joining.was;
       other = λ same. c.if-joining-character.false (sym same ∙ sym character);
     }
