@@ -1,4 +1,4 @@
--- There is one list of settings that fits the crossings of configurations that hold the same, or one reason why there is none.
+-- Configurations that hold the same have no two lists of settings that fit their crossings, no two reasons why they have none, and never both.
 use Rattle.std.proofs.Common.{◌≡◌, ◌∙◌, ◌⊎◌, ◌+◌, ◌-◌, ◌<◌, ℕ, List, [], ◌∷◌, ap, arith, get_or, inl, inr, map, refl, subst, sym}
 use Rattle.std.specs.Prelude.{◌↔◌, All, AllPairs, Contains}
 use Rattle.std.proofs.lemmas.Grind.{get_or_tail}

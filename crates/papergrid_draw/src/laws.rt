@@ -254,8 +254,8 @@ pub fn equal_clones()
     ensures room { (x y : Room) → ⟦<Room as Clone>⟧.is_clone x y → y ≡ x }
 {}
 
-/// The crossings of configurations that hold the same are fitted by the same settings and by no others, or there is the
-/// same reason why they have none, and never both.
+/// Configurations that hold the same have no two lists of settings that fit their crossings, no two reasons why they have
+/// none, and never both.
 pub fn one_fit()
     ensures settings { (x y : SpannedConfig) (shape : ℕ × ℕ) (junctions : Junctions)
         (settings other : List Setting) → HoldTheSameSettings x y →

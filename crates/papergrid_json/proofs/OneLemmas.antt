@@ -1,4 +1,4 @@
--- There is one picture of a document, or one reason why there is none.
+-- A document has no two pictures, no two reasons why it has none, and never both.
 use Rattle.std.proofs.Common.{◌≡◌, ◌∙◌, ℕ, List, Option, None, Some, ap, length, refl, subst, sym}
 use Rattle.std.specs.Prelude.{slice_index}
 use Rattle.papergrid_tracks.specs.declared.error.LayoutError.{LayoutError}

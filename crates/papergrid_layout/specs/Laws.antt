@@ -39,8 +39,8 @@ pub record TellTheSame (settings other : List Setting) : Type 0 where
   pub padding : (p : Position) → effective.padding settings p ≡ effective.padding other p
   pub characters : characters_of settings ≡ characters_of other
 
--- calls that decide a cell's span stand in the same order for each cell, wherever those of other cells stand; otherwise
--- the lists are the same
+-- in both lists the same calls decide the span of each cell, in the same order, wherever those of other cells stand. The
+-- calls of paddings are the same, and so are those of lines
 pub record AreReordered (settings other : List Setting) : Type 0 where
   pub spans : (direction : Direction) (p : Position) →
       filter (decides_span direction p) (flat_map span_calls settings) ≡ filter (decides_span direction p) (flat_map span_calls other)
