@@ -1,20 +1,17 @@
 -- What runs write, and how they end.
 use Rattle.std.proofs.Common.{◌≡◌, ◌≢◌, ◌∙◌, ℕ, Bool, List, Option, Result, Vec, Global, Ok, Err, ap, inl, inr, refl, subst, sym}
-use Rattle.std.specs.Prelude.{◌↔◌, ⊤, IfErr, IfOk, IsErrOf, OnOk, take}
-use Rattle.std.specs.Io.KnownBytes.{Appends}
+use Rattle.std.specs.Prelude.{◌↔◌, ⊤}
 use Rattle.papergrid_config.specs.declared.setting.Setting.{Setting}
 use Rattle.papergrid_config.specs.declared.spanned.SpannedConfig.{SpannedConfig}
 use Rattle.papergrid_tracks.specs.declared.sizing.Sizing.{Sizing}
-use Rattle.papergrid_tracks.specs.declared.sizing.Sizing.TheVariants.{ByShares}
 use Rattle.papergrid_draw.specs.Drawings.{Drawing}
 use Rattle.papergrid_draw.specs.Faults.{IsDrawable}
 use Rattle.papergrid_draw.specs.declared.error.DrawError.{DrawError}
 use Rattle.papergrid_draw.specs.declared.error.DrawError.TheVariants as draw_errors
 use Rattle.papergrid_draw.specs.Lined.{lined}
 use Rattle.papergrid_config.specs.Laws.{IsConfiguredBy}
-use Rattle.papergrid_script.specs.Outputs.{end_by, output_by}
-use Rattle.papergrid_script.specs.Runs.{HasRun, IsRunFault}
-use Rattle.papergrid_script.specs.Scripts.{Table, table_of}
+use Rattle.papergrid_script.specs.Runs.{IsRunFault, Runs}
+use Rattle.papergrid_script.specs.Scripts.{IsScript, Table}
 use Rattle.papergrid_script.specs.declared.answer.RunEnd.{RunEnd}
 use Rattle.papergrid_script.specs.declared.answer.RunEnd.TheVariants.{BadScript, Done, Refused}
 use Rattle.papergrid_script.specs.declared.reading.RunFault.{RunFault}
@@ -77,12 +74,6 @@ module _ {W : Type 0} (contents : W → Option (List ℕ)) (has_failed has_stall
         subst (λ w. WritesOutput contents has_failed has_stalled Any (IsTablePicture sizing table) w new result) (so.nothing named)
         (runs-also contents has_failed has_stalled Any _ _ (λ end output p. subst (λ x. IsTablePicture sizing table x output) (sym p.0) (e, named, (config, told, so.fault named), p.1 ∙ is)) between new result ran)
 
--- of an input that tells so much
-pub picture-run-of : (sizing : Sizing) (input : List ℕ) (told : Result Table ℕ) → table_of input ≡ told → (end : RunEnd) (output : List ℕ) →
-    IsPictureOf sizing told end output → IsPictureRun sizing input end output
-unfolding IsPictureRun
-picture-run-of sizing input told is end output so = subst (λ t. IsPictureOf sizing t end output) (sym is) so
-
 -- a script has no two outputs, where settings and texts have no two pictures, no two reasons why they have none, and never both
 module _ (sizing : Sizing)
     (pictures : (columns : ℕ) (texts : List (List (List ℕ))) (settings : List Setting) (d e : Drawing) → IsDrawingBy columns texts sizing settings d → IsDrawingBy columns texts sizing settings e → lined d ≡ lined e)
@@ -100,46 +91,28 @@ module _ (sizing : Sizing)
   one-output-of (Ok table) end other output bytes a b = one-table-output table end other output bytes a b
   one-output-of (Err number) end other output bytes a b = (a.0 ∙ sym b.0, a.1 ∙ sym b.1)
 
-  pub one-output : (input : List ℕ) (end other : RunEnd) (output bytes : List ℕ) → IsPictureRun sizing input end output → IsPictureRun sizing input other bytes → (end ≡ other) × (output ≡ bytes)
-  unfolding IsPictureRun
-  one-output input = one-output-of (table_of input)
+  pub one-output : (input : List ℕ) → ((script also : Result Table ℕ) → IsScript input script → IsScript input also → script ≡ also) →
+      (end other : RunEnd) (output bytes : List ℕ) → IsPictureRun sizing input end output → IsPictureRun sizing input other bytes → (end ≡ other) × (output ≡ bytes)
+  one-output input one end other output bytes a b =
+      one-output-of a.0 end other output bytes a.2 (subst (λ script. IsPictureOf sizing script other bytes) (sym (one a.0 b.0 a.1 b.1)) b.2)
 
 -- a reader and a writer, by what they tell, and the input that a run kept in place of another one
 module _ {R W : Type 0} (remaining : R → Option (List ℕ)) (read_failed : R → Bool) (contents : W → Option (List ℕ)) (has_failed has_stalled : W → Bool)
     (reader_old reader_new : R) (writer_old writer_new : W) (before input : Vec ℕ Global) where
-  abbrev Ran : Vec ℕ Global → Type 0
-  Ran old = HasRun remaining read_failed contents has_failed has_stalled reader_old reader_new writer_old writer_new old input
-
-  abbrev Broke : Vec ℕ Global → RunFault → Type 0
-  Broke old fault = IsRunFault remaining read_failed contents has_failed has_stalled reader_old reader_new writer_old writer_new old input fault
-
-  -- what the run leaves, where nobody sees what it kept
-  pub ran-unseen : (result : Result RunEnd RunFault) → OnOk result (Ran before) → OnOk result (Appends (contents writer_old) (contents writer_new) (output_by ByShares input.items)) →
-      IfOk result (λ end. end ≡ end_by ByShares input.items) →
-      IfOk result (λ end. (kept : Vec ℕ Global) × HasRun remaining read_failed contents has_failed has_stalled reader_old reader_new writer_old writer_new kept kept
-      × Appends (contents writer_old) (contents writer_new) (output_by ByShares kept.items) × (end ≡ end_by ByShares kept.items))
-  ran-unseen (Ok end) ran written ended = (
-    input,
-    record {
-      kept = ran.kept;
-      reader_works = ran.reader_works;
-      writer_works = ran.writer_works;
-      writer_moves = ran.writer_moves;
-    },
-    written,
-    ended,
-  )
-  ran-unseen (Err fault) ran written ended = tt
-
-  -- and of one that broke off
-  broke-unseen : (fault : RunFault) → Broke before fault → Broke input fault
+  -- what a run leaves that broke off, where nobody sees what it kept
+  broke-unseen : (fault : RunFault) → IsRunFault remaining read_failed contents has_failed has_stalled reader_old reader_new writer_old writer_new before input fault →
+      IsRunFault remaining read_failed contents has_failed has_stalled reader_old reader_new writer_old writer_new input input fault
   broke-unseen run_faults.Read is = record { read = is.read; nothing = is.nothing; kept = refl }
   broke-unseen run_faults.Memory is = record { reader_works = is.reader_works; writer_works = is.writer_works; writer_moves = is.writer_moves; kept = elim is.kept [ inl same ↦ inl (refl, same.1) | inr whole ↦ inr whole ] }
   broke-unseen run_faults.Write is = record { reader_works = is.reader_works; write = is.write; kept = is.kept }
 
-  pub fault-unseen : (result : Result RunEnd RunFault) → IfErr result (Broke before) →
-      (IsErrOf result run_faults.Write → (n : ℕ) × Appends (contents writer_old) (contents writer_new) (take n (output_by ByShares input.items))) →
-      IfErr result (λ fault. (kept : Vec ℕ Global) × IsRunFault remaining read_failed contents has_failed has_stalled reader_old reader_new writer_old writer_new kept kept fault
-      × (fault ≡ run_faults.Write → (n : ℕ) × Appends (contents writer_old) (contents writer_new) (take n (output_by ByShares kept.items))))
-  fault-unseen (Ok end) broke begun = tt
-  fault-unseen (Err fault) broke begun = (input, broke-unseen fault broke, λ is. begun (ap Err is))
+  pub runs-unseen : {IsOutput : RunEnd → List ℕ → Type 0} {MayBegin : List ℕ → Type 0} (result : Result RunEnd RunFault) →
+      Runs remaining read_failed contents has_failed has_stalled reader_old reader_new writer_old writer_new before input IsOutput MayBegin result →
+      Runs remaining read_failed contents has_failed has_stalled reader_old reader_new writer_old writer_new input input IsOutput MayBegin result
+  runs-unseen (Ok end) runs = record {
+    written = runs.written;
+    ran = record { kept = runs.ran.kept; reader_works = runs.ran.reader_works; writer_works = runs.ran.writer_works; writer_moves = runs.ran.writer_moves };
+    fault = tt;
+    beginning = tt;
+  }
+  runs-unseen (Err fault) runs = record { written = tt; ran = tt; fault = broke-unseen fault runs.fault; beginning = runs.beginning }

@@ -6,7 +6,8 @@ use Rattle.papergrid_draw.specs.Faults.{IsDrawable}
 use Rattle.papergrid_draw.specs.declared.error.DrawError.{DrawError}
 use Rattle.papergrid_draw.specs.declared.error.DrawError.TheVariants.{Memory, NoRoom, NotTiled, OutOfTable, TooLarge, Write}
 use Rattle.papergrid_draw.specs.Lined.{lined}
-use Rattle.papergrid_script.specs.Scripts.{Table, table_of}
+use Rattle.papergrid_script.specs.Outputs.{bad_line_text}
+use Rattle.papergrid_script.specs.Scripts.{IsScript, Table}
 use Rattle.papergrid_script.specs.Texts.{newline}
 use Rattle.papergrid_script.specs.declared.answer.RunEnd.{RunEnd}
 use Rattle.papergrid_script.specs.declared.answer.RunEnd.TheVariants.{Done, Refused, BadScript}
@@ -31,12 +32,12 @@ IsTablePicture sizing table Refused output =
     (e : DrawError) × IsRefusal e × IsPictureFault table.columns table.rows sizing table.settings e × (output ≡ refusal_line e)
 IsTablePicture sizing table BadScript output = ⊥
 
--- the same of an input: the table that it tells, or its first bad line
+-- the same of a script: of its table, or of its first bad line
 abbrev pub IsPictureOf : Sizing → Result Table ℕ → RunEnd → List ℕ → Type 0
 IsPictureOf sizing (Ok table) end output = IsTablePicture sizing table end output
 IsPictureOf sizing (Err number) end output =
-    (end ≡ BadScript) × (output ≡ codes "bad script at line " ++ decimal number ++ newline ∷ [])
+    (end ≡ BadScript) × (output ≡ bad_line_text number)
 
 -- of the bytes of an input
-unfoldable pub IsPictureRun : Sizing → List ℕ → RunEnd → List ℕ → Type 0
-IsPictureRun sizing input end output = IsPictureOf sizing (table_of input) end output
+abbrev pub IsPictureRun : Sizing → List ℕ → RunEnd → List ℕ → Type 0
+IsPictureRun sizing input end output = (script : Result Table ℕ) × IsScript input script × IsPictureOf sizing script end output

@@ -18,6 +18,7 @@ ghost use Rattle.papergrid_script.specs.Seen.{rows_seen, table_seen};
 ghost use Rattle.papergrid_script.specs.declared.reading.RunFault.TheVariants.{Read};
 ghost use Rattle.papergrid_script.specs.declared.reading.RunFault.TheVariants as run_faults;
 
+use crate::running::say;
 use crate::table_layout::configuration;
 use bumpalo::Bump;
 use papergrid_config::laws::history_decides;
@@ -30,7 +31,7 @@ use papergrid_script::output::{bad_script_text, out_of_table_text, too_large_tex
 use papergrid_script::reading::{RunFault, read_all};
 use papergrid_script::script::{Script, ScriptError, read_script};
 use papergrid_script::script_setting::configuration_of;
-use papergrid_text::transfer::{Sink, Source, write_all};
+use papergrid_text::transfer::{Sink, Source};
 use papergrid_text::{IterRecords, VecRecords};
 use papergrid_values::Position;
 use std::alloc::{AllocError, Global};
@@ -146,17 +147,6 @@ pub fn draw_script<W: Sink>(
             say(writer, RunEnd::BadScript, bad_script_text(alloc, number)?)
         }
         Ok(script) => draw_read(alloc, sizing, script, writer),
-    }
-}
-
-/// Writes a text, after which the run ends so.
-fn say<W: Sink>(writer: &mut W, end: RunEnd, text: Vec<u8>) -> Result<RunEnd, RunFault>
-    ensures { WritesOutput W.contents W.has_failed W.has_stalled (λ _. ⊤)
-        (λ e output. (e ≡ end) × (output ≡ text.items)) writer.old writer.new result }
-{
-    match write_all(writer, text.as_slice()) {
-        Ok(()) => Ok(end),
-        Err(_) => Err(RunFault::Write),
     }
 }
 

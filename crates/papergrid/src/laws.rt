@@ -24,8 +24,8 @@ use papergrid_layout::Sizing;
 use papergrid_script::answer::RunEnd;
 use papergrid_script::explained::Reason;
 pub use papergrid_script::laws::{
-    entity_form, estimate_by_grid, grid_by_settings, line_form, number_form, reasons_by_runs,
-    script_by_lines, script_lines_form, script_settings_in_range, worked_rows,
+    grid_by_settings, one_estimate, one_list_of_lines, one_meaning, one_outcome, one_script,
+    reasons_by_ends, script_settings_in_range, worked_rows,
 };
 use papergrid_script::reading::RunFault;
 use papergrid_script::script_setting::ScriptSetting;
@@ -62,6 +62,7 @@ pub fn one_output()
         (end ≡ other) × (output ≡ bytes) }
 {
     one_picture();
+    one_script();
 }
 
 /// The printers draw one picture. That of measured texts, by `PeekableGrid`, is that of the texts, by `IterGrid`. That of

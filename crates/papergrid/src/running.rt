@@ -1,12 +1,13 @@
 //! The whole run: read to the end, judge, write.
 
-ghost use Rattle.std.specs.Prelude.{◌≡◌, ℕ, Vec, take, false, IfErr, IfOk, IfSome, OnOk, IsErrOf};
+ghost use Rattle.std.specs.Prelude.{◌≡◌, ⊤, ℕ, Vec, false, IsErrOf};
 ghost use Rattle.std.specs.declared.alloc.Global.{Global};
-ghost use Rattle.std.specs.Io.KnownBytes.{Appends};
 ghost use Rattle.papergrid_tracks.specs.declared.sizing.Sizing.TheVariants.{ByShares};
-ghost use Rattle.papergrid_script.specs.Outputs.{end_by, output_by};
-ghost use Rattle.papergrid_script.specs.Runs.{HasRun, IsRunFault};
-ghost use Rattle.papergrid_script.specs.declared.reading.RunFault.TheVariants.{Memory, Write};
+ghost use Rattle.papergrid_script.specs.Outputs.{IsAnswer};
+ghost use Rattle.papergrid_script.specs.Runs.{Runs};
+ghost use Rattle.papergrid_script.specs.Writing.{WritesOutput};
+ghost use Rattle.papergrid_script.specs.declared.answer.RunEnd.{RunEnd};
+ghost use Rattle.papergrid_script.specs.declared.reading.RunFault.TheVariants.{Memory};
 
 use papergrid_layout::Sizing;
 use papergrid_script::answer::{RunEnd, answer};
@@ -34,28 +35,13 @@ pub fn run<S: Source, W: Sink>(
     // Of a reader and a writer that had not failed.
     requires reader { S.has_failed reader.old ≡ false }
     requires writer { W.has_failed writer.old ≡ false }
-    // What the input means was written and nothing else.
-    ensures written { OnOk result (IfSome (S.remaining reader.old) (λ input.
-        Appends (W.contents writer.old) (W.contents writer.new) (output_by ByShares input))) }
-    ensures answer { IfOk result (λ end. IfSome (S.remaining reader.old) (λ input.
-        end ≡ end_by ByShares input)) }
-    // So of some input where the reader does not tell its bytes. It was read to its end, and no read and no write failed. Each
-    // write of a piece that isn't empty took a byte, of a writer that had not stalled before.
-    ensures ran { IfOk result (λ end. (input : Vec ℕ Global)
-        × HasRun S.remaining S.has_failed W.contents W.has_failed W.has_stalled
-        reader.old reader.new writer.old writer.new input input
-        × Appends (W.contents writer.old) (W.contents writer.new) (output_by ByShares input.items)
-        × (end ≡ end_by ByShares input.items)) }
-    // Which fault comes, and what it leaves of the reader and of the writer.
-    ensures fault { IfErr result (λ fault. (input : Vec ℕ Global)
-        × IsRunFault S.remaining S.has_failed W.contents W.has_failed W.has_stalled
-        reader.old reader.new writer.old writer.new input input fault
-        × (fault ≡ Write → (n : ℕ) × Appends (W.contents writer.old) (W.contents writer.new)
-        (take n (output_by ByShares input.items)))) }
+    // Of some input, which is what was left to read where the reader tells that. Its output was written, and nothing else. It
+    // was read to its end, and neither the reader nor the writer failed. Or which fault comes, and what it leaves of them.
+    ensures run { (input : Vec ℕ Global) × Runs S.remaining S.has_failed W.contents W.has_failed
+        W.has_stalled reader.old reader.new writer.old writer.new input input
+        (IsAnswer ByShares input.items)
+        (λ output. (end : RunEnd) × IsAnswer ByShares input.items end output) result }
     ensures memory_nothing { IsErrOf result Memory → writer.new ≡ writer.old }
-    ensures beginning { IsErrOf result Write → IfSome (S.remaining reader.old) (λ input.
-        (n : ℕ) × Appends (W.contents writer.old) (W.contents writer.new)
-        (take n (output_by ByShares input))) }
 {
     let mut input = Vec::new(alloc);
     run_keeping(alloc, Sizing::ByShares, reader, writer, &mut input)
@@ -80,25 +66,40 @@ pub fn run_keeping<S: Source, W: Sink>(
     // Of a reader and a writer that had not failed.
     requires reader { S.has_failed reader.old ≡ false }
     requires writer { W.has_failed writer.old ≡ false }
-    // What the input means was written and nothing else.
-    ensures written { OnOk result (Appends (W.contents writer.old) (W.contents writer.new)
-        (output_by sizing input.new.items)) }
-    ensures answer { IfOk result (λ end. end ≡ end_by sizing input.new.items) }
-    // The whole input is kept, and no read and no write failed. Each write of a piece that isn't empty took a byte, of a
-    // writer that had not stalled before.
-    ensures ran { OnOk result (HasRun S.remaining S.has_failed W.contents W.has_failed
-        W.has_stalled reader.old reader.new writer.old writer.new input.old input.new) }
-    // Which fault comes, and what it leaves of the reader, of the writer and of the vector.
-    ensures fault { IfErr result (IsRunFault S.remaining S.has_failed W.contents W.has_failed
-        W.has_stalled reader.old reader.new writer.old writer.new input.old input.new) }
+    // Its output was written, and nothing else. The whole input is kept, and neither the reader nor the writer failed. Or
+    // which fault comes, and what it leaves of them and of the vector.
+    ensures run { Runs S.remaining S.has_failed W.contents W.has_failed W.has_stalled
+        reader.old reader.new writer.old writer.new input.old input.new
+        (IsAnswer sizing input.new.items)
+        (λ output. (end : RunEnd) × IsAnswer sizing input.new.items end output) result }
     ensures memory_nothing { IsErrOf result Memory → writer.new ≡ writer.old }
-    ensures beginning { IsErrOf result Write →
-        (n : ℕ) × Appends (W.contents writer.old) (W.contents writer.new)
-        (take n (output_by sizing input.new.items)) }
 {
     *input = read_all(alloc, reader)?;
-    let (end, output) = answer(alloc, sizing, input.as_slice())?;
-    match write_all(writer, output.as_slice()) {
+    write_answer(alloc, sizing, input.as_slice(), writer)
+}
+
+/// Writes the output of an input.
+fn write_answer<W: Sink>(
+    alloc: Global,
+    sizing: Sizing,
+    input: &[u8],
+    writer: &mut W,
+) -> Result<RunEnd, RunFault>
+    ensures written { WritesOutput W.contents W.has_failed W.has_stalled (λ _. ⊤)
+        (IsAnswer sizing input.now) writer.old writer.new result }
+    ensures memory_nothing { IsErrOf result Memory → writer.new ≡ writer.old }
+{
+    let (end, output) = answer(alloc, sizing, input)?;
+    say(writer, end, output)
+}
+
+/// Writes a text, after which the run ends so.
+pub fn say<W: Sink>(writer: &mut W, end: RunEnd, text: Vec<u8>) -> Result<RunEnd, RunFault>
+    ensures written { WritesOutput W.contents W.has_failed W.has_stalled (λ _. ⊤)
+        (λ e output. (e ≡ end) × (output ≡ text.items)) writer.old writer.new result }
+    ensures never_memory { IsErrOf result Memory → ⊥ }
+{
+    match write_all(writer, text.as_slice()) {
         Ok(()) => Ok(end),
         Err(_) => Err(RunFault::Write),
     }

@@ -9,7 +9,6 @@ ghost use Rattle.papergrid_tracks.specs.declared.sizing.Sizing.TheVariants as si
 ghost use Rattle.papergrid_layout.specs.Answers.{UnlessMemory};
 ghost use Rattle.papergrid.specs.Layouts.{IsLaidOut};
 ghost use Rattle.papergrid_config.specs.Laws.{IsConfiguredBy};
-ghost use Rattle.papergrid_script.specs.Grids.{grid_of};
 ghost use Rattle.papergrid_text.specs.Records.{TellsRows};
 
 use papergrid_config::laws::history_decides;
@@ -44,11 +43,8 @@ where
     <<R as Records>::Iter as IntoRecords>::Cell: AsStr + Drop,
     requires lawful { R.is_lawful records }
     requires in_range { All (λ setting. is_in_range setting ≡ true) settings.items }
-    ensures sizes { UnlessMemory result (TellsRows R.tells records (λ cells.
-        IsLaidOut (grid_of settings.items) (line_measure R.Iter.Cell.text)
-        (R.columns records) cells sizings.ByShares result)) }
-    // So by a configuration that the settings make, and that holds for each cell what they decide.
-    ensures settings { UnlessMemory result ((config : SpannedConfig)
+    // By a configuration that the settings make, and that holds for each cell what they decide.
+    ensures { UnlessMemory result ((config : SpannedConfig)
         × IsConfiguredBy settings.items config
         × TellsRows R.tells records (λ cells.
         IsLaidOut (spanned_grid config) (line_measure R.Iter.Cell.text)
@@ -77,11 +73,8 @@ where
     <<R as Records>::Iter as IntoRecords>::Cell: AsStr + Drop,
     requires lawful { R.is_lawful records }
     requires in_range { All (λ setting. is_in_range setting ≡ true) settings.items }
-    ensures sizes { UnlessMemory result (TellsRows R.tells records (λ cells.
-        IsLaidOut (grid_of settings.items) (line_measure R.Iter.Cell.text)
-        (R.columns records) cells sizings.Least result)) }
-    // So by a configuration that the settings make, and that holds for each cell what they decide.
-    ensures settings { UnlessMemory result ((config : SpannedConfig)
+    // By a configuration that the settings make, and that holds for each cell what they decide.
+    ensures { UnlessMemory result ((config : SpannedConfig)
         × IsConfiguredBy settings.items config
         × TellsRows R.tells records (λ cells.
         IsLaidOut (spanned_grid config) (line_measure R.Iter.Cell.text)
@@ -100,10 +93,7 @@ where
     <<R as Records>::Iter as IntoRecords>::Cell: AsStr + Drop,
     requires lawful { R.is_lawful records }
     requires in_range { All (λ setting. is_in_range setting ≡ true) settings.items }
-    ensures sizes { UnlessMemory result (TellsRows R.tells records (λ cells.
-        IsLaidOut (grid_of settings.items) (line_measure R.Iter.Cell.text)
-        (R.columns records) cells T.sizing result)) }
-    ensures settings { UnlessMemory result ((config : SpannedConfig)
+    ensures { UnlessMemory result ((config : SpannedConfig)
         × IsConfiguredBy settings.items config
         × TellsRows R.tells records (λ cells.
         IsLaidOut (spanned_grid config) (line_measure R.Iter.Cell.text)

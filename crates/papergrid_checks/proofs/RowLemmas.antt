@@ -1,10 +1,7 @@
 -- What a caller that holds its rows reads of an answer: the cells told are seen through a view, and are those of the rows.
-use Rattle.std.proofs.Common.{◌≡◌, ◌∙◌, ℕ, ◌+◌, ◌||◌, inl, inr, List, [], ◌∷◌, length, map, nat_lt, refl, ap, sym, subst}
-use Rattle.std.specs.Prelude.{Err, IsErrAnd, MatchResult, Ok, Result}
-use Rattle.std.proofs.lemmas.List.{length-map}
-use Rattle.papergrid_values.specs.declared.position.Position.{Position}
+use Rattle.std.proofs.Common.{◌≡◌, ℕ, List, map, sym, subst}
+use Rattle.std.specs.Prelude.{Err, IfOk, IsErrAnd, MatchResult, Ok, Result}
 use Rattle.papergrid_values.specs.declared.direction.Direction.{Direction}
-use Rattle.papergrid_values.specs.declared.direction.Direction.TheVariants.{Columns, Rows}
 use Rattle.papergrid_tracks.specs.declared.error.LayoutError.{LayoutError}
 use Rattle.papergrid_tracks.specs.declared.error.LayoutError.TheVariants.{OutOfTable, TooLarge, Memory}
 use Rattle.papergrid_tracks.specs.Sizings.{Answers, AreTooLargeBy, IsRefused}
@@ -12,15 +9,17 @@ use Rattle.papergrid_tracks.specs.Problem.{Problem}
 use Rattle.papergrid_config.specs.Grids.{spanned_grid}
 use Rattle.papergrid_config.specs.declared.spanned.SpannedConfig.{SpannedConfig}
 use Rattle.papergrid_tracks.specs.LeastAnswers.{AreLeastSizes}
-use Rattle.papergrid_walk.specs.Cells.{demand_by, demands_of, problem_of, visible_cells}
+use Rattle.papergrid_walk.specs.Cells.{problem_of}
 use Rattle.papergrid_maps.specs.Grids.{Grid}
 use Rattle.papergrid_layout.specs.Answers.{HoldAlong, IsBothRefused, UnlessMemory, UnlessMemoryError}
 use Rattle.papergrid_layout.specs.Tables.{IsTableOf, TableParts}
 use Rattle.papergrid_tracks.specs.declared.sizing.Sizing.{Sizing}
-use Rattle.papergrid_tracks.specs.declared.sizing.Sizing.TheVariants.{ByShares, Least}
+use Rattle.papergrid_tracks.specs.declared.sizing.Sizing.TheVariants.{Least}
 use Rattle.papergrid_layout.specs.declared.grid_dimension.GridDimension.{GridDimension}
 use Rattle.papergrid_layout.proofs.Told.{problem_told}
 use Rattle.papergrid_layout.proofs.Told as seen
+use Rattle.papergrid_config.specs.declared.setting.Setting.{Setting}
+use Rattle.papergrid_script.specs.Grids.{IsGridOf}
 use Rattle.papergrid.specs.Layouts.{IsLaidOut}
 
 module _ {A B : Type 0} (grid : Grid) (v : A → B) (f : B → ℕ × ℕ) (columns : ℕ) (rows : List (List B)) where
@@ -68,11 +67,20 @@ module _ {A B : Type 0} (grid : Grid) (v : A → B) (f : B → ℕ × ℕ) (colu
   answers_told sizing holds direction (Ok found) is = subst (λ problem. holds problem found) (one_told is.0 is.1 direction) is.2
   answers_told sizing holds direction (Err e) is = one_refused sizing direction e is
 
-  -- an answer with a dimension
-  pub laid_told : {T M : Type 0} (sizing : Sizing) (result : Result (GridDimension T M) LayoutError)
-      → UnlessMemory result ((cells : List (List A)) × (map (map v) cells ≡ rows) × IsLaidOut grid (λ x. f (v x)) columns cells sizing result) → IsLaidOut grid f columns rows sizing result
-  laid_told sizing (Ok dimension) is = both_told is.0 is.1 _ _ _ is.2
-  laid_told sizing (Err e) is = both_refused sizing e is
+-- an answer with a dimension, by some configuration
+pub laid_told : {A B T M : Type 0} (Made : SpannedConfig → Type 0) (v : A → B) (f : B → ℕ × ℕ) (columns : ℕ) (rows : List (List B)) (sizing : Sizing) (result : Result (GridDimension T M) LayoutError)
+    → UnlessMemory result ((config : SpannedConfig) × Made config × ((cells : List (List A)) × (map (map v) cells ≡ rows) × IsLaidOut (spanned_grid config) (λ x. f (v x)) columns cells sizing result))
+    → UnlessMemory result ((config : SpannedConfig) × Made config × IsLaidOut (spanned_grid config) f columns rows sizing result)
+laid_told Made v f columns rows sizing (Ok dimension) is = (is.0, is.1, both_told (spanned_grid is.0) v f columns rows is.2.0 is.2.1 _ _ _ is.2.2)
+laid_told Made v f columns rows sizing (Err (OutOfTable place)) is = (is.0, is.1, both_refused (spanned_grid is.0) v f columns rows sizing (OutOfTable place) is.2)
+laid_told Made v f columns rows sizing (Err TooLarge) is = (is.0, is.1, both_refused (spanned_grid is.0) v f columns rows sizing TooLarge is.2)
+laid_told Made v f columns rows sizing (Err (Memory e)) is = tt
+
+-- what holds by a grid that settings decide, with the grid
+pub with_grid : {A E : Type 0} (settings : List Setting) (grid : Grid) → IsGridOf settings grid → (holds : Grid → A → Type 0) (result : Result A E) → IfOk result (holds grid)
+    → IfOk result (λ x. (other : Grid) × IsGridOf settings other × holds other x)
+with_grid settings grid is holds (Ok x) so = (grid, is, so)
+with_grid settings grid is holds (Err e) so = tt
 
 -- the table of the cells told, of least sizes, is that of the rows
 pub table_told : {A B : Type 0} (config : SpannedConfig) (v : A → B) (f : B → ℕ × ℕ) (columns : ℕ) (rows : List (List B)) (result : Result TableParts LayoutError)

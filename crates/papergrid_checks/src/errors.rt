@@ -1,7 +1,8 @@
 //! Errors of the library as an `anyhow::Error`, by `?`.
 
 ghost use Rattle.std.specs.Prelude.{◌≡◌, All, IfOk, List, length, true, ℕ};
-ghost use Rattle.papergrid_script.specs.Grids.{grid_of};
+ghost use Rattle.papergrid_maps.specs.Grids.{Grid};
+ghost use Rattle.papergrid_script.specs.Grids.{IsGridOf};
 ghost use Rattle.papergrid_config.specs.Applied.{is_in_range};
 ghost use Rattle.papergrid_layout.specs.Answers.{AreBothSizes};
 ghost use Rattle.papergrid_tracks.specs.declared.sizing.Sizing.TheVariants as sizings;
@@ -42,12 +43,12 @@ pub fn place_in(
 /// The same of the first cell, by a list of settings. Condition: each setting is in range.
 pub fn first_place(alloc: Global, settings: Vec<Setting>, rows: &[Vec<&str>]) -> Result<Place>
     requires { All (λ setting. is_in_range setting ≡ true) settings.items }
-    ensures { let grid = grid_of settings.items in
-        IfOk result (λ place. (widths : List ℕ) × (heights : List ℕ)
+    ensures { IfOk result (λ place. (grid : Grid) × IsGridOf settings.items grid
+        × ((widths : List ℕ) × (heights : List ℕ)
         × AreBothSizes grid lent_measure 3 (cells_of rows.now)
         sizings.ByShares widths heights
         × HasPlace (sized_table grid widths heights (length rows.now, 3))
-        (record { row = 0; col = 0 }) place) }
+        (record { row = 0; col = 0 }) place)) }
 {
     grid_by_settings();
     let config = told(alloc, settings)?;

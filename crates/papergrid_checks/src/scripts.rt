@@ -1,10 +1,12 @@
 //! Scripts: answered, and explained.
 
-ghost use Rattle.std.specs.Prelude.{◌≡◌, IfOk, OnErr, OnOk, false, take, ℕ};
+ghost use Rattle.std.specs.Prelude.{◌≡◌, ◌⊎◌, IfOk, List, OnErr, false, ℕ};
 ghost use Rattle.std.specs.Io.KnownBytes.{Appends};
 ghost use Rattle.papergrid_tracks.specs.declared.sizing.Sizing.TheVariants.{ByShares};
-ghost use Rattle.papergrid_script.specs.Outputs.{end_by, output_by};
-ghost use Rattle.papergrid_script.specs.Reasons.{reason_by};
+ghost use Rattle.papergrid_script.specs.Outputs.{IsAnswer, OfOutcome};
+ghost use Rattle.papergrid_script.specs.Reasons.{outcome_reason};
+ghost use Rattle.papergrid_script.specs.declared.answer.RunEnd.{RunEnd};
+ghost use Rattle.papergrid_text.specs.Transfer.{HasBegun};
 ghost use Rattle.papergrid_checks.specs.Scripts.{bad_number};
 
 use papergrid::{ReadSource, Reason, RunEnd, RunFault, Sink, Sizing, explain, run};
@@ -13,12 +15,12 @@ use std::alloc::{AllocError, Global};
 /// Writes what the program answers to a script, and answers how that ended. Condition: the writer has not failed.
 pub fn answer_to<W: Sink>(alloc: Global, script: &[u8], writer: &mut W) -> Result<RunEnd, RunFault>
     requires { W.has_failed writer.old ≡ false }
-    ensures end { IfOk result (λ end. end ≡ end_by ByShares script.now) }
-    ensures written { OnOk result
-        (Appends (W.contents writer.old) (W.contents writer.new) (output_by ByShares script.now)) }
-    ensures beginning { OnErr result ((n : ℕ) ×
-        Appends (W.contents writer.old) (W.contents writer.new)
-        (take n (output_by ByShares script.now))) }
+    ensures written { IfOk result (λ end. (output : List ℕ)
+        × IsAnswer ByShares script.now end output
+        × Appends (W.contents writer.old) (W.contents writer.new) output) }
+    ensures beginning { OnErr result ((writer.new ≡ writer.old)
+        ⊎ ((output : List ℕ) × ((end : RunEnd) × IsAnswer ByShares script.now end output)
+        × HasBegun W.contents W.has_failed W.has_stalled writer.old output writer.new)) }
 {
     let mut source = ReadSource::new(script);
     run(alloc, &mut source, writer)
@@ -26,7 +28,8 @@ pub fn answer_to<W: Sink>(alloc: Global, script: &[u8], writer: &mut W) -> Resul
 
 /// The number of a script's first bad line, counted from 1.
 pub fn bad_line(alloc: Global, script: &[u8]) -> Result<Option<usize>, AllocError>
-    ensures { IfOk result (λ bad. bad ≡ bad_number (reason_by ByShares script.now)) }
+    ensures { IfOk result (λ bad. OfOutcome ByShares script.now (λ outcome.
+        bad ≡ bad_number (outcome_reason outcome))) }
 {
     match explain(alloc, Sizing::ByShares, script)? {
         Some(Reason::BadLine(number)) => Ok(Some(number)),

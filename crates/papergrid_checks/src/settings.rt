@@ -2,10 +2,13 @@
 
 ghost use Rattle.std.specs.Prelude.{◌≡◌, All, IfOk, true};
 ghost use Rattle.papergrid.specs.Layouts.{IsLaidOut};
-ghost use Rattle.papergrid_script.specs.Grids.{grid_of};
 ghost use Rattle.papergrid_tracks.specs.declared.sizing.Sizing.TheVariants.{ByShares};
 ghost use Rattle.papergrid_config.specs.Applied.{is_in_range};
+ghost use Rattle.papergrid_config.specs.Grids.{spanned_grid};
 ghost use Rattle.papergrid_config.specs.History.{HasSettingHistory};
+ghost use Rattle.papergrid_config.specs.Laws.{IsConfiguredBy};
+ghost use Rattle.papergrid_config.specs.declared.spanned.SpannedConfig.{SpannedConfig};
+ghost use Rattle.papergrid_layout.specs.Answers.{UnlessMemory};
 ghost use Rattle.papergrid_maps.specs.StoredMap.{stored_value};
 ghost use Rattle.papergrid_values.specs.declared.position.Position.{Position};
 ghost use Rattle.papergrid_checks.specs.Lines.{line_settings};
@@ -61,8 +64,8 @@ pub fn laid_out(
     rows: &[Vec<&str>],
 ) -> Result<IterGridDimension, LayoutError>
     requires { All (λ setting. is_in_range setting ≡ true) settings.items }
-    ensures { IsLaidOut (grid_of settings.items) lent_measure 3 (cells_of rows.now)
-        ByShares result }
+    ensures { UnlessMemory result ((config : SpannedConfig) × IsConfiguredBy settings.items config
+        × IsLaidOut (spanned_grid config) lent_measure 3 (cells_of rows.now) ByShares result) }
 {
     layout(alloc, settings, IterRecords::new(rows, 3, None))
 }

@@ -6,9 +6,10 @@ use Rattle.std.proofs.lemmas.Bool.{false≢true, and_from, or_left, or_right, eq
 use Rattle.papergrid_values.specs.declared.borders.Borders.{Borders}
 use Rattle.papergrid_values.specs.declared.position.Position.{Position}
 use Rattle.papergrid_values.specs.Borders.{has_left, has_right, has_top, has_bottom, has_horizontal, has_vertical}
+use Rattle.papergrid_values.specs.declared.direction.Direction.TheVariants.{Columns, Rows}
 use Rattle.papergrid_tables.specs.StoredBorders.{StoredBorders, parts_of_borders}
 use Rattle.papergrid_tables.specs.LineTests.{horizontal_line_at, vertical_line_at}
-use Rattle.papergrid_tables.specs.BorderParts.{BorderParts, HasHorizontal, HasVertical, at_ends, found_horizontal, found_intersection, found_vertical, frame_horizontal, frame_vertical}
+use Rattle.papergrid_tables.specs.BorderParts.{BorderParts, at_ends, found_horizontal, found_intersection, found_vertical, frame_horizontal, frame_vertical, HasLine}
 use Rattle.papergrid_tables.proofs.LineTested.{horizontal_tested, vertical_tested}
 use Rattle.papergrid_config.specs.Lines.{found_or_missing, shown_horizontal, shown_intersection, shown_vertical}
 
@@ -62,12 +63,12 @@ found_somewhere None None (Some x) global on_edge on_line on_frame h = inr (inl 
 found_somewhere None None None global on_edge on_line on_frame h = inl h
 
 module _ {T : Type 0} (parts : BorderParts T) (p : Position) (count : ℕ) where
-  found_on_vertical : p.col ≤ count → IsSome (found_vertical parts p count) → HasVertical parts p.col count
+  found_on_vertical : p.col ≤ count → IsSome (found_vertical parts p count) → HasLine Columns parts p.col count
   found_on_vertical within =
       found_somewhere (parts.vertical_edge p) _ (frame_vertical parts.frame p.col count) parts.global (λ edge. (p, refl, edge))
       (some_then (λ l. l.main) (parts.vertical_line p.col)) (vertical_part_found parts.frame p.col count within)
 
-  found_on_horizontal : p.row ≤ count → IsSome (found_horizontal parts p count) → HasHorizontal parts p.row count
+  found_on_horizontal : p.row ≤ count → IsSome (found_horizontal parts p count) → HasLine Rows parts p.row count
   found_on_horizontal within =
       found_somewhere (parts.horizontal_edge p) _ (frame_horizontal parts.frame p.row count) parts.global (λ edge. (p, refl, edge))
       (some_then (λ l. l.main) (parts.horizontal_line p.row)) (horizontal_part_found parts.frame p.row count within)
@@ -92,15 +93,15 @@ shown_where_line found is_line missing tested on_line = (
 )
 
 module _ (characters : StoredBorders ℕ) (missing : ℕ) (p : Position) where
-  pub vertical_shown : (count : ℕ) → p.col ≤ count → IsSome (shown_vertical characters missing p count) ↔ HasVertical (parts_of_borders characters) p.col count
+  pub vertical_shown : (count : ℕ) → p.col ≤ count → IsSome (shown_vertical characters missing p count) ↔ HasLine Columns (parts_of_borders characters) p.col count
   vertical_shown count within =
       shown_where_line (found_vertical (parts_of_borders characters) p count) _ missing (vertical_tested characters p.col count) (found_on_vertical (parts_of_borders characters) p count within)
 
-  pub horizontal_shown : (count : ℕ) → p.row ≤ count → IsSome (shown_horizontal characters missing p count) ↔ HasHorizontal (parts_of_borders characters) p.row count
+  pub horizontal_shown : (count : ℕ) → p.row ≤ count → IsSome (shown_horizontal characters missing p count) ↔ HasLine Rows (parts_of_borders characters) p.row count
   horizontal_shown count within =
       shown_where_line (found_horizontal (parts_of_borders characters) p count) _ missing (horizontal_tested characters p.row count) (found_on_horizontal (parts_of_borders characters) p count within)
 
-  pub crossing_shown : (rows cols : ℕ) → HasHorizontal (parts_of_borders characters) p.row rows → HasVertical (parts_of_borders characters) p.col cols → IsSome (shown_intersection characters missing p (rows, cols))
+  pub crossing_shown : (rows cols : ℕ) → HasLine Rows (parts_of_borders characters) p.row rows → HasLine Columns (parts_of_borders characters) p.col cols → IsSome (shown_intersection characters missing p (rows, cols))
   crossing_shown rows cols horizontal vertical =
       shown_on_line (found_intersection (parts_of_borders characters) p rows cols) (horizontal_line_at characters p.row rows && vertical_line_at characters p.col cols) missing
       (and_from _ _ ((horizontal_tested characters p.row rows).1 horizontal) ((vertical_tested characters p.col cols).1 vertical))

@@ -4,11 +4,10 @@ use Rattle.papergrid_values.specs.declared.position.Position.{Position}
 use Rattle.papergrid_maps.specs.StoredMap.{stored_value}
 use Rattle.papergrid_config.specs.Effective as effective
 use Rattle.papergrid_config.specs.History.{HasSettingHistory}
-use Rattle.papergrid_config.specs.Made.{characters_of, spans_of}
 use Rattle.papergrid_config.specs.declared.setting.Setting.{Setting}
 use Rattle.papergrid_config.specs.declared.spanned.SpannedConfig.{SpannedConfig}
 
--- what a configuration holds for each position is what the settings decide, and its lines and spans are those that they make
+-- what a configuration holds for each position is what the settings decide
 pub record HoldsEffectiveValues (settings : List Setting) (config : SpannedConfig) : Type 0 where
   pub padding : (p : Position) → stored_value config.padding p ≡ effective.padding settings p
   pub padding_color : (p : Position) → stored_value config.padding_color p ≡ effective.padding_color settings p
@@ -19,8 +18,6 @@ pub record HoldsEffectiveValues (settings : List Setting) (config : SpannedConfi
   pub alignment_vertical : (p : Position) → stored_value config.alignment_vertical p ≡ effective.alignment_vertical settings p
   pub justification : (p : Position) → stored_value config.justification p ≡ effective.justification settings p
   pub justification_color : (p : Position) → stored_value config.justification_color p ≡ effective.justification_color settings p
-  pub characters : config.characters ≡ characters_of settings
-  pub spans : config.spans ≡ spans_of settings
 
 -- a configuration that the settings make, and so one that holds for each cell what they decide
 pub record IsConfiguredBy (settings : List Setting) (config : SpannedConfig) : Type 0 where

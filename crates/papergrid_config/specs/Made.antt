@@ -1,32 +1,14 @@
--- What a list of settings makes of the parts that are looked at part by part, and of a compact configuration.
-use Rattle.std.specs.Prelude.{ℕ, List, [], ◌∷◌, flat_map, reverse, Some, Option, option_map}
+-- The settings that make of a compact configuration one of a table.
+use Rattle.std.specs.Prelude.{List, [], ◌∷◌, Some, Option, option_map}
 use Rattle.papergrid_values.specs.Colors.{texts_of}
 use Rattle.papergrid_values.specs.declared.ansi_buf.ANSIBuf.{ANSIBuf}
 use Rattle.papergrid_values.specs.declared.ansi_str.ANSIStr.{ANSIStr}
 use Rattle.papergrid_values.specs.declared.borders.Borders.{Borders}
 use Rattle.papergrid_values.specs.declared.entity.Entity.TheVariants.{Global}
 use Rattle.papergrid_values.specs.declared.sides.Sides.{Sides}
-use Rattle.papergrid_tables.specs.StoredBorders.{StoredBorders}
-use Rattle.papergrid_tables.specs.Made.{borders_made}
-use Rattle.papergrid_tables.specs.BorderParts.{BorderParts, parts_from}
-use Rattle.papergrid_maps.specs.Made.{spans_made}
-use Rattle.papergrid_maps.specs.Spans.{Spans}
 use Rattle.papergrid_values.specs.declared.compact.CompactConfig.{CompactConfig}
-use Rattle.papergrid_config.specs.Parts.{character_calls, span_calls}
 use Rattle.papergrid_config.specs.declared.setting.Setting.{Setting}
 use Rattle.papergrid_config.specs.declared.setting.Setting.TheVariants.{SetPadding, SetPaddingColor, SetAlignmentHorizontal, SetMargin, SetMarginColor, SetBorders, SetBordersColor}
-
--- the characters of lines, and the spans
-abbrev pub characters_of : List Setting → StoredBorders ℕ
-characters_of settings = borders_made (flat_map character_calls settings)
-
--- what the settings leave for each part of the lines, as the last call that sets it
-abbrev pub lines_from_settings : List Setting → BorderParts ℕ
-lines_from_settings settings = parts_from (reverse (flat_map character_calls settings))
-
--- the spans
-abbrev pub spans_of : List Setting → Spans
-spans_of settings = spans_made (flat_map span_calls settings)
 
 -- a colour of each side, whether its texts are empty or not
 abbrev pub colored_sides : Sides ANSIStr → Sides (Option ANSIBuf)

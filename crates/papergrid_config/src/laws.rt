@@ -2,17 +2,18 @@
 
 ghost use Rattle.std.specs.Prelude.{◌≡◌, ◌∷◌, [], ◌↔◌, ◌≤◌, ℕ, IsSome, IsTrue, List, length, true};
 ghost use Rattle.std.specs.List.{list_all};
+ghost use Rattle.papergrid_values.specs.declared.direction.Direction.{Direction};
+ghost use Rattle.papergrid_values.specs.declared.direction.Direction.TheVariants.{Columns, Rows};
 ghost use Rattle.papergrid_values.specs.declared.position.Position.{Position};
 ghost use Rattle.papergrid_tables.specs.StoredBorders.{StoredBorders, parts_of_borders};
-ghost use Rattle.papergrid_tables.specs.LineTests.{horizontal_line_at, vertical_line_at};
-ghost use Rattle.papergrid_tables.specs.BorderParts.{HasHorizontal, HasVertical};
+ghost use Rattle.papergrid_tables.specs.BorderParts.{HasLine};
 ghost use Rattle.papergrid_maps.specs.MapCalls.{effective_value};
 ghost use Rattle.papergrid_maps.specs.declared.entity_map.MapCall.{MapCall};
 ghost use Rattle.papergrid_config.specs.ConfigSame.{HoldTheSameSettings};
 ghost use Rattle.papergrid_config.specs.EffectiveCall.{IsEffective};
 ghost use Rattle.papergrid_config.specs.Laws.{HoldsEffectiveValues};
 ghost use Rattle.papergrid_config.specs.Lines.{shown_horizontal, shown_intersection, shown_vertical};
-ghost use Rattle.papergrid_config.specs.Made.{characters_of, lines_from_settings};
+ghost use Rattle.papergrid_config.specs.Grids.{line_along};
 ghost use Rattle.papergrid_config.specs.History.{HasSettingHistory};
 ghost use Rattle.papergrid_config.specs.declared.setting.Setting.{Setting};
 ghost use Rattle.papergrid_config.specs.declared.spanned.SpannedConfig.{SpannedConfig};
@@ -23,8 +24,7 @@ use papergrid_maps::{EntityMap, SpanTable};
 use papergrid_tables::{BorderTable, OffsetTable};
 use papergrid_values::{ANSIBuf, AlignmentHorizontal, AlignmentVertical, Indent, Offset, Sides};
 
-/// A configuration with the settings as its history has at each position what they decide, and
-/// the lines and spans that they make.
+/// A configuration with the settings as its history has at each position what they decide.
 pub fn history_decides()
     ensures { (settings : List Setting) (config : SpannedConfig) →
         HasSettingHistory settings config →
@@ -43,15 +43,11 @@ pub fn effective_by_index<T>()
         v ≡ effective_value given calls (record { row = r; col = c }) }
 {}
 
-/// There is a line among those that settings make exactly where the parts that the settings
-/// leave have one.
+/// There is a line in a border table exactly where its parts have one.
 pub fn lines_by_parts()
-    ensures vertical { (settings : List Setting) (col count : ℕ) →
-        IsTrue (vertical_line_at (characters_of settings) col count)
-        ↔ HasVertical (lines_from_settings settings) col count }
-    ensures horizontal { (settings : List Setting) (row count : ℕ) →
-        IsTrue (horizontal_line_at (characters_of settings) row count)
-        ↔ HasHorizontal (lines_from_settings settings) row count }
+    ensures { (characters : StoredBorders ℕ) (direction : Direction) (i count : ℕ) →
+        IsTrue (line_along characters direction count i)
+        ↔ HasLine direction (parts_of_borders characters) i count }
 {}
 
 /// In a table of so many columns (rows) a character is shown on a line exactly where the line is
@@ -59,13 +55,13 @@ pub fn lines_by_parts()
 pub fn shown_where_lines_are()
     ensures vertical { (characters : StoredBorders ℕ) (missing : ℕ) (p : Position) (count : ℕ) →
         p.col ≤ count → IsSome (shown_vertical characters missing p count)
-        ↔ HasVertical (parts_of_borders characters) p.col count }
+        ↔ HasLine Columns (parts_of_borders characters) p.col count }
     ensures horizontal { (characters : StoredBorders ℕ) (missing : ℕ) (p : Position) (count : ℕ) →
         p.row ≤ count → IsSome (shown_horizontal characters missing p count)
-        ↔ HasHorizontal (parts_of_borders characters) p.row count }
+        ↔ HasLine Rows (parts_of_borders characters) p.row count }
     ensures crossing { (characters : StoredBorders ℕ) (missing : ℕ) (p : Position) (rows cols : ℕ) →
-        HasHorizontal (parts_of_borders characters) p.row rows →
-        HasVertical (parts_of_borders characters) p.col cols →
+        HasLine Rows (parts_of_borders characters) p.row rows →
+        HasLine Columns (parts_of_borders characters) p.col cols →
         IsSome (shown_intersection characters missing p (rows, cols)) }
 {}
 

@@ -3,7 +3,7 @@
 ghost use Rattle.std.specs.Prelude.{◌≡◌, ◌↔◌, ◌-◌, ◌<◌, ◌^◌, IsTrue, option_copied};
 ghost use Rattle.papergrid_tables.specs.StoredBorders.{parts_of_borders};
 ghost use Rattle.papergrid_tables.specs.LineTests.{horizontal_line_at, vertical_line_at};
-ghost use Rattle.papergrid_tables.specs.BorderParts.{HasHorizontal, HasVertical, found_horizontal, found_intersection, found_vertical};
+ghost use Rattle.papergrid_tables.specs.BorderParts.{found_horizontal, found_intersection, found_vertical, HasLine};
 ghost use Rattle.papergrid_config.specs.Grids.{line_along};
 ghost use Rattle.papergrid_config.specs.Lines.{shown_horizontal, shown_intersection, shown_vertical};
 ghost use Rattle.papergrid_values.specs.Lines.{all_lines};
@@ -84,7 +84,7 @@ impl SpannedConfig {
     /// Whether there is a vertical line at a column, where there are so many columns.
     pub fn has_vertical(&self, col: usize, count: usize) -> bool
         ensures line { IsTrue result ↔
-            HasVertical (parts_of_borders self.now.characters) col count }
+            HasLine Columns (parts_of_borders self.now.characters) col count }
         ensures test { result ≡ vertical_line_at self.now.characters col count }
     {
         self.characters.has_vertical(col, count)
@@ -93,7 +93,7 @@ impl SpannedConfig {
     /// Whether there is a horizontal line at a row, where there are so many rows.
     pub fn has_horizontal(&self, row: usize, count: usize) -> bool
         ensures line { IsTrue result ↔
-            HasHorizontal (parts_of_borders self.now.characters) row count }
+            HasLine Rows (parts_of_borders self.now.characters) row count }
         ensures test { result ≡ horizontal_line_at self.now.characters row count }
     {
         self.characters.has_horizontal(row, count)

@@ -11,11 +11,12 @@ use Rattle.papergrid_values.specs.declared.position.Position.{Position}
 use Rattle.papergrid_tables.specs.StoredBorders.{StoredBorders}
 use Rattle.papergrid_tables.specs.LineTests.{vertical_line_at}
 use Rattle.papergrid_config.specs.Grids.{spanned_grid}
-use Rattle.papergrid_config.specs.Made.{spans_of}
+use Rattle.papergrid_config.specs.History.{HasSettingHistory}
+use Rattle.papergrid_maps.proofs.MadeTables.{span_history}
 use Rattle.papergrid_config.specs.Parts.{span_calls}
 use Rattle.papergrid_config.specs.declared.setting.Setting.{Setting}
 use Rattle.papergrid_config.specs.declared.spanned.SpannedConfig.{SpannedConfig}
-use Rattle.papergrid_maps.specs.Made.{spans_made}
+use Rattle.papergrid_maps.specs.ForProofs.Made.{spans_made}
 use Rattle.papergrid_maps.specs.Spans.{is_visible, span_along}
 use Rattle.papergrid_maps.proofs.SpanVisible.{visible_test}
 use Rattle.papergrid_maps.specs.Grids.{Grid}
@@ -31,9 +32,9 @@ pub record HasNoSpans (grid : Grid) : Type 0 where
 same-position : (p q : Position) → p.row ≡ q.row → p.col ≡ q.col → p ≡ q
 same-position p q row col = λ i. record { row = row i; col = col i }
 
-pub none-spanned : (settings : List Setting) (config : SpannedConfig) → flat_map span_calls settings ≡ [] → config.spans ≡ spans_of settings → HasNoSpans (spanned_grid config)
-none-spanned settings config none is =
-    let empty = is ∙ ap spans_made none in
+pub none-spanned : (settings : List Setting) (config : SpannedConfig) → flat_map span_calls settings ≡ [] → HasSettingHistory settings config → HasNoSpans (spanned_grid config)
+none-spanned settings config none told =
+    let empty = span_history (flat_map span_calls settings) config.spans told.spans ∙ ap spans_made none in
     record {
       shown = λ p. ap (λ spans. is_visible spans p) empty ∙ seen p;
       single = λ direction p. ap (λ spans. span_along spans direction p) empty ∙ one direction p;

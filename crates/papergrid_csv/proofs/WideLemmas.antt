@@ -1,6 +1,6 @@
 -- Each line of the picture of a CSV text is as wide as its table.
 use Rattle.std.proofs.Common.{◌≡◌, ◌∙◌, ◌⊎◌, ◌<◌, ◌++◌, ℕ, true, List, [], All, Option, None, Some, ap, append-nil, inl, inr, length, refl, subst, sym}
-use Rattle.std.specs.Prelude.{IsSome, IsUtf8}
+use Rattle.std.specs.Prelude.{IsSome, IsUtf8, flat_map}
 use Rattle.std.specs.List.{list_all}
 use Rattle.std.proofs.lemmas.List.Folds.{list_all-append}
 use Rattle.papergrid_values.specs.declared.direction.Direction.TheVariants.{Columns, Rows}
@@ -9,7 +9,8 @@ use Rattle.papergrid_text.specs.Text.{width_of}
 use Rattle.papergrid_tracks.specs.Fits.{Fits}
 use Rattle.papergrid_walk.specs.Cells.{problem_of}
 use Rattle.papergrid_config.specs.Grids.{spanned_grid}
-use Rattle.papergrid_config.specs.Parts.{padding_calls}
+use Rattle.papergrid_config.specs.Parts.{character_calls, padding_calls}
+use Rattle.papergrid_tables.proofs.MadeTables.{border_history}
 use Rattle.papergrid_config.specs.declared.setting.Setting.{Setting}
 use Rattle.papergrid_config.specs.declared.spanned.SpannedConfig.{SpannedConfig}
 use Rattle.papergrid_layout.specs.Laws.{IsCellAt}
@@ -60,11 +61,11 @@ vertical-stays : (request : Request) (columns : ℕ) (rows : List (List (List �
 vertical-stays request columns rows None shape config fitted are told some shown widths heights counted j above below =
     let plain : IsConfiguredBy (settings_of request columns rows) config =
     subst (λ s. IsConfiguredBy s config) (ap (λ l. settings_of request columns rows ++ l) are ∙ append-nil (settings_of request columns rows)) told in
-    line-between config.characters request.frame j (length widths) (ap (λ c. c.frame) plain.effective.characters ∙ frame-of request columns rows) some above below
+    line-between config.characters request.frame j (length widths) (ap (λ c. c.frame) (border_history (flat_map character_calls (settings_of request columns rows)) config.characters plain.told.characters) ∙ frame-of request columns rows) some above below
 vertical-stays request columns rows (Some junctions) shape config fitted are told some shown widths heights counted j above below =
     let (plain, configured, fit, becomes) = are in
     let same = fit.lines config becomes (texts_drawing plain shown widths heights) (texts_drawing config shown widths heights) refl refl counted counted j in
-    same.0 ∙ line-between plain.characters request.frame j (length widths) (ap (λ c. c.frame) configured.effective.characters ∙ frame-of request columns rows) some above below
+    same.0 ∙ line-between plain.characters request.frame j (length widths) (ap (λ c. c.frame) (border_history (flat_map character_calls (settings_of request columns rows)) plain.characters configured.told.characters) ∙ frame-of request columns rows) some above below
 
 module _ (request : Request) (input : List ℕ) (d : Drawing) (so : IsCsvDrawing request input d) where
   abbrev settings : List Setting

@@ -21,14 +21,14 @@ use Rattle.papergrid_values.specs.declared.position.Position.{Position}
 use Rattle.papergrid_values.proofs.KeyLemmas.{exact_position_eq, exact_positions, position_total}
 use Rattle.papergrid_values.proofs.ResultLemmas.{same_answer}
 use Rattle.papergrid_tables.specs.BorderCalls.{BorderCall, InsertBorder, below, right_of}
-use Rattle.papergrid_tables.specs.BorderParts.{BorderParts, HasHorizontal, HasVertical, StandsOn, found_intersection, parts_after_call, parts_from}
+use Rattle.papergrid_tables.specs.BorderParts.{BorderParts, StandsOn, found_intersection, parts_after_call, parts_from, HasLine}
 use Rattle.papergrid_tables.specs.LineTests.{horizontal_line_at, vertical_line_at}
 use Rattle.papergrid_tables.specs.Overrides as overrides
 use Rattle.papergrid_tables.specs.StoredBorders.{parts_of_borders}
 use Rattle.papergrid_tables.proofs.LineTested.{horizontal_tested, vertical_tested}
 use Rattle.papergrid_tables.proofs.MadeTables.{border_history}
-use Rattle.papergrid_tables.specs.Made.{borders_made}
-use Rattle.papergrid_maps.specs.Made.{spans_made}
+use Rattle.papergrid_tables.specs.ForProofs.Made.{borders_made}
+use Rattle.papergrid_maps.specs.ForProofs.Made.{spans_made}
 use Rattle.papergrid_maps.specs.StoredMap as maps
 use Rattle.papergrid_maps.specs.StoredMap.{Stored}
 use Rattle.papergrid_maps.specs.declared.entity_map.MapCall.{MapCall}
@@ -261,26 +261,26 @@ module _ (old new : SpannedConfig) (marks : List (Position × ℕ)) (becomes : B
 
     pub vertical-same : (n : ℕ) → vertical_line_at new.characters n shape.1 ≡ vertical_line_at old.characters n shape.1
     vertical-same n =
-        let now = subst (λ places. IsTrue (vertical_line_at new.characters n shape.1) ↔ HasVertical places n shape.1) parts-new (vertical_tested new.characters n shape.1) in
+        let now = subst (λ places. IsTrue (vertical_line_at new.characters n shape.1) ↔ HasLine Columns places n shape.1) parts-new (vertical_tested new.characters n shape.1) in
         same_answer (vertical_line_at new.characters n shape.1) (vertical_line_at old.characters n shape.1)
         ((λ yes. last-of before (now.0 yes)), (λ has. now.1 (last-of (λ stands. inr (inr (inr (inr (inr (stands-on Columns n stands)))))) has)))
         (vertical_tested old.characters n shape.1)
       where
-        before : StandsOn Columns n (with_marks marks parts).corner → HasVertical parts n shape.1
+        before : StandsOn Columns n (with_marks marks parts).corner → HasLine Columns parts n shape.1
         before stands = elim (stood-on Columns n stands) [
           | inl stood ↦ inr (inr (inr (inr (inr stood))))
-          | inr found ↦ subst (λ m. HasVertical parts m shape.1) found.2 ((vertical_tested old.characters found.0.0.col shape.1).0 found.1.unfit.seen.vertical)
+          | inr found ↦ subst (λ m. HasLine Columns parts m shape.1) found.2 ((vertical_tested old.characters found.0.0.col shape.1).0 found.1.unfit.seen.vertical)
         ]
 
     pub horizontal-same : (n : ℕ) → horizontal_line_at new.characters n shape.0 ≡ horizontal_line_at old.characters n shape.0
     horizontal-same n =
-        let now = subst (λ places. IsTrue (horizontal_line_at new.characters n shape.0) ↔ HasHorizontal places n shape.0) parts-new (horizontal_tested new.characters n shape.0) in
+        let now = subst (λ places. IsTrue (horizontal_line_at new.characters n shape.0) ↔ HasLine Rows places n shape.0) parts-new (horizontal_tested new.characters n shape.0) in
         same_answer (horizontal_line_at new.characters n shape.0) (horizontal_line_at old.characters n shape.0)
         ((λ yes. last-of before (now.0 yes)), (λ has. now.1 (last-of (λ stands. inr (inr (inr (inr (inr (stands-on Rows n stands)))))) has)))
         (horizontal_tested old.characters n shape.0)
       where
-        before : StandsOn Rows n (with_marks marks parts).corner → HasHorizontal parts n shape.0
+        before : StandsOn Rows n (with_marks marks parts).corner → HasLine Rows parts n shape.0
         before stands = elim (stood-on Rows n stands) [
           | inl stood ↦ inr (inr (inr (inr (inr stood))))
-          | inr found ↦ subst (λ m. HasHorizontal parts m shape.0) found.2 ((horizontal_tested old.characters found.0.0.row shape.0).0 found.1.unfit.seen.horizontal)
+          | inr found ↦ subst (λ m. HasLine Rows parts m shape.0) found.2 ((horizontal_tested old.characters found.0.0.row shape.0).0 found.1.unfit.seen.horizontal)
         ]

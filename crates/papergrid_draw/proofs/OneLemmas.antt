@@ -126,7 +126,7 @@ sized-not-large ByShares problem sizes a b =
     omega (arith, small, large)
 sized-not-large Least problem sizes a b =
     let small = a.total in
-    let large = subst (λ s. 2 ^ 64 ≤ total_of problem s) (sym ((furthest_right-is problem a.table sizes).0 a.exact)) b.too_large in
+    let large = b.others_too_large sizes a.least.fits in
     omega (arith, small, large)
 
 -- ---- a drawing by configurations that hold the same

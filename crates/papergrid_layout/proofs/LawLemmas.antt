@@ -15,14 +15,14 @@ use Rattle.papergrid_text.proofs.Widths.{all_answered}
 use Rattle.papergrid_values.specs.declared.direction.Direction.{Direction}
 use Rattle.papergrid_tracks.specs.Ranges.{demand_of}
 use Rattle.papergrid_values.specs.MapKeys.{position_eq}
-use Rattle.papergrid_tables.specs.Made.{borders_made}
+use Rattle.papergrid_tables.specs.BorderParts.{parts_from}
 use Rattle.papergrid_maps.specs.MapCalls.{effective_value}
 use Rattle.papergrid_maps.specs.StoredMap.{stored_value}
 use Rattle.papergrid_maps.specs.EffectiveSpan.{decides_span}
 use Rattle.papergrid_maps.specs.Spans as spans
 use Rattle.papergrid_maps.specs.Spans.{SetSpan, RemoveSpans, SpanCall, from_two, is_same_direction, is_visible, span_from}
 use Rattle.papergrid_values.proofs.KeyLemmas.{exact_position_eq}
-use Rattle.papergrid_tables.proofs.MadeTables.{border_history}
+use Rattle.papergrid_tables.proofs.MadeTables.{same_borders}
 use Rattle.papergrid_maps.proofs.MadeTables.{span_history}
 use Rattle.papergrid_maps.proofs.StoredMapLemmas.{stored_effective}
 use Rattle.papergrid_config.specs.Parts.{character_calls, padding_calls, span_calls}
@@ -79,9 +79,7 @@ pub same_grid : (settings other : List Setting) → TellTheSame settings other �
 same_grid settings other same x y told also =
     let calls = flat_map span_calls settings in
     let spans_same = span_history calls x.spans told.spans ∙ sym (span_history calls y.spans (λ d p. also.spans d p ∙ ap from_two (sym (same.spans d p)))) in
-    let lines_same =
-    border_history (flat_map character_calls settings) x.characters told.characters ∙ same.characters
-    ∙ sym (border_history (flat_map character_calls other) y.characters also.characters) in
+    let lines_same = same_borders x.characters y.characters (told.characters ∙ same.characters ∙ sym also.characters) in
     let padding_same : (p : Position) → stored_value x.padding p ≡ stored_value y.padding p
     = λ p. stored_effective _ _ _ told.padding p ∙ same.padding p ∙ sym (stored_effective _ _ _ also.padding p) in
     same_grid_by spans_same padding_same lines_same
@@ -115,7 +113,7 @@ pub reordered_tell : (settings other : List Setting) → AreReordered settings o
 reordered_tell settings other same = record {
   spans = λ d p. by_decided d p (flat_map span_calls settings) ∙ ap (λ calls. span_from d p (reverse calls)) (same.spans d p) ∙ sym (by_decided d p (flat_map span_calls other));
   padding = λ p. ap (λ calls. effective_value (all_sides (spaces 0)) calls p) same.padding;
-  characters = ap borders_made same.characters;
+  characters = ap (λ calls. parts_from (reverse calls)) same.characters;
 }
   where
     by_decided : (d : Direction) (p : Position) (calls : List SpanCall) → spans.effective_span d p calls ≡ span_from d p (reverse (filter (decides_span d p) calls))

@@ -9,7 +9,7 @@ use Rattle.papergrid_values.specs.declared.position.Position.{Position}
 use Rattle.papergrid_values.specs.MapKeys.{position_cmp, position_eq}
 use Rattle.papergrid_values.proofs.KeyLemmas.{exact_positions, position_equiv, position_ties, position_total, exact_position}
 use Rattle.papergrid_values.proofs.TabulatedLemmas.{tabulates}
-use Rattle.papergrid_maps.specs.Made.{named_anchors, spans_made}
+use Rattle.papergrid_maps.specs.ForProofs.Made.{named_anchors, spans_made}
 use Rattle.papergrid_maps.specs.Spans as spans
 use Rattle.papergrid_values.specs.declared.direction.Direction.{Direction}
 use Rattle.papergrid_values.specs.declared.direction.Direction.TheVariants.{Columns, Rows}

@@ -6,7 +6,6 @@ pub mod EffectiveSpan
 pub mod StoredSame
 pub mod Keys
 pub mod Listed
-pub mod Made
 pub mod MapCalls
 pub mod MapEq
 pub mod StoredMap

@@ -11,7 +11,6 @@ ghost use Rattle.papergrid_maps.specs.declared.entity_map.Stopped.{Stopped};
 ghost use Rattle.papergrid_maps.specs.declared.view.Paddings.{Paddings};
 ghost use Rattle.papergrid_maps.specs.EffectiveSpan.{IsEffectiveSpan};
 ghost use Rattle.papergrid_maps.specs.StoredSame.{HoldTheSameSpans, HoldTheSameValues};
-ghost use Rattle.papergrid_maps.specs.Made.{spans_made};
 ghost use Rattle.papergrid_maps.specs.MapCalls.{effective_value};
 ghost use Rattle.papergrid_maps.specs.StoredMap.{Stored, HasMapHistory, stored_value};
 ghost use Rattle.papergrid_maps.specs.Spans as spans;
@@ -28,11 +27,12 @@ pub fn history_decides<T>()
         ≡ effective_value given calls position }
 {}
 
-/// The spans that calls make have them as their history, and no others do.
+/// Any calls make spans that have them as their history, and no others.
 pub fn history_makes_spans()
-    ensures told { (calls : List SpanCall) → spans.HasSpanHistory calls (spans_made calls) }
-    ensures only { (calls : List SpanCall) (stored : Spans) →
-        spans.HasSpanHistory calls stored → stored ≡ spans_made calls }
+    ensures some { (calls : List SpanCall) →
+        (stored : Spans) × spans.HasSpanHistory calls stored }
+    ensures only { (calls : List SpanCall) (s t : Spans) →
+        spans.HasSpanHistory calls s → spans.HasSpanHistory calls t → s ≡ t }
 {}
 
 /// The span that calls decide is the one that their deciding call sets, by its index in the list:

@@ -13,12 +13,14 @@ use Rattle.std.proofs.lemmas.Str.{IsUtf8-append, IsUtf8-drop, IsUtf8-take, IsUtf
 use Rattle.std.proofs.lemmas.Str.Ascii.{IsAscii-nil, IsAscii-cons}
 use Rattle.papergrid_text.specs.Text.{HasNoNewline, split_lines}
 use Rattle.papergrid_text.proofs.Splits.{is_split}
-use Rattle.papergrid_script.specs.Grammar.{line_says, without_cr}
+use Rattle.papergrid_script.specs.Grammar.{line_says}
+use Rattle.papergrid_script.specs.ForProofs.Read.{without_cr}
 use Rattle.papergrid_script.specs.declared.script.Script.{Script}
 use Rattle.papergrid_script.specs.declared.script.ScriptError.{ScriptError}
 use Rattle.papergrid_script.specs.declared.script.ScriptError.TheVariants as script_errors
-use Rattle.papergrid_script.specs.Scripts.{Table, empty_table, table_with_line, or_bad, table_after, table_of}
-use Rattle.papergrid_script.specs.Seen.{GivesTable}
+use Rattle.papergrid_script.specs.Scripts.{Table}
+use Rattle.papergrid_script.specs.ForProofs.Read.{empty_table, table_with_line, or_bad, table_after, table_of}
+use Rattle.papergrid_script.specs.Seen.{GivesScript}
 use Rattle.papergrid_script.proofs.LineLemmas.{table_of-pieces}
 
 -- ---- the first part
@@ -173,19 +175,19 @@ all_taken (suc n) [] all = refl
 all_taken zero (b ∷ bytes) all = absurd (omega arith)
 all_taken (suc n) (b ∷ bytes) all = ap (λ more. b ∷ more) (all_taken n bytes (omega arith))
 
-pub all_given : (input text : List ℕ) (r : Result Script ScriptError) → text ≡ take (length text) input → length input ≤ length text → GivesTable r (table_of text) → GivesTable r (table_of input)
-all_given input text r front all given = subst (λ bytes. GivesTable r (table_of bytes)) (front ∙ all_taken (length text) input all) given
+pub all_given : (input text : List ℕ) (r : Result Script ScriptError) → text ≡ take (length text) input → length input ≤ length text → GivesScript r (λ s. table_of text ≡ s) → GivesScript r (λ s. table_of input ≡ s)
+all_given input text r front all given = subst (λ bytes. GivesScript r (λ s. table_of bytes ≡ s)) (front ∙ all_taken (length text) input all) given
 
 front_cut : (input text : List ℕ) → text ≡ take (length text) input → IsValidUpTo input (length text) → table_of input ≡ cut_short (length (split_lines text)) (table_of text)
 front_cut input text front valid = cut_table input (length text) valid ∙ ap (λ bytes. cut_short (length (split_lines bytes)) (table_of bytes)) (sym front)
 
 -- a fault stays what it is
-pub fault_given : (input text : List ℕ) (r : Result Script ScriptError) → text ≡ take (length text) input → IsValidUpTo input (length text) → is_ok r ≡ false → GivesTable r (table_of text) → GivesTable r (table_of input)
+pub fault_given : (input text : List ℕ) (r : Result Script ScriptError) → text ≡ take (length text) input → IsValidUpTo input (length text) → is_ok r ≡ false → GivesScript r (λ s. table_of text ≡ s) → GivesScript r (λ s. table_of input ≡ s)
 fault_given input text (Ok script) front valid fault given = cc
 fault_given input text (Err (script_errors.Bad number)) front valid fault given = front_cut input text front valid ∙ ap (cut_short (length (split_lines text))) given
 fault_given input text (Err script_errors.Memory) front valid fault given = tt
 
 -- and in place of a table comes the line where the text ends
-pub line_given : (input text : List ℕ) (r : Result Script ScriptError) → text ≡ take (length text) input → IsValidUpTo input (length text) → is_ok r ≡ true → GivesTable r (table_of text) → table_of input ≡ Err (length (split_lines text))
+pub line_given : (input text : List ℕ) (r : Result Script ScriptError) → text ≡ take (length text) input → IsValidUpTo input (length text) → is_ok r ≡ true → GivesScript r (λ s. table_of text ≡ s) → table_of input ≡ Err (length (split_lines text))
 line_given input text (Ok script) front valid ok given = front_cut input text front valid ∙ ap (cut_short (length (split_lines text))) given
 line_given input text (Err e) front valid ok given = cc

@@ -1,15 +1,19 @@
--- What a script says, line by line, is what all of its lines tell.
-use Rattle.std.proofs.Common.{◌≡◌, ◌⊎◌, ◌<◌, ◌+◌, ◌-◌, ◌++◌, ◌∷◌, [], ℕ, zero, suc, List, Bool, true, false, ◌||◌, Option, Some, None, option_map, Result, Ok, Err, map, length, nat_lt, refl, sym, ap, ◌∙◌, subst, arith, inl, inr, append_assoc, append-nil, length-append}
+-- What a script is read to, line by line, is what all of its lines say.
+use Rattle.std.proofs.Common.{◌≡◌, ◌≢◌, ◌⊎◌, ◌<◌, ◌+◌, ◌-◌, ◌++◌, ◌∷◌, [], ℕ, zero, suc, List, Bool, true, false, ◌||◌, Option, Some, None, option_map, Result, Ok, Err, map, length, nat_lt, refl, sym, ap, ◌∙◌, subst, arith, inl, inr, append_assoc, append-nil, length-append}
 use Rattle.std.specs.Prelude.{option_and_then, slice_get, slice_set, filter}
-use Rattle.std.specs.List.{filter_map}
+use Rattle.std.specs.List.{AllZip, filter_map}
 use Rattle.std.proofs.lemmas.List.{map-append, length-set}
 use Rattle.std.proofs.lemmas.Option.{same_Some, none-some, slice_get-get_or}
 use Rattle.std.proofs.lemmas.Grind.{flat_map-append}
 use borrow.Author.Tests.{lt-ltb}
-use Rattle.papergrid_script.specs.Grammar.{Said, Nothing, Columns, Set, Row, Cell, line_says, script_lines}
-use Rattle.papergrid_script.specs.Scripts.{Table, empty_table, table_with_line, onto_last, or_bad, table_after, table_of}
-use Rattle.papergrid_script.specs.Describes.{NoRowBefore, IsBad, IsFirstBad, columns_said, setting_said, is_of_rows, last_or, rows_said, Describes}
-use Rattle.papergrid_script.proofs.ReadLemmas.{map_some}
+use Rattle.papergrid_script.specs.Spelling.{Said, Nothing, Columns, Set, Row, Cell, Says}
+use Rattle.papergrid_script.specs.Grammar.{line_says}
+use Rattle.papergrid_script.specs.ForProofs.Read.{script_lines}
+use Rattle.papergrid_script.specs.Scripts.{Table}
+use Rattle.papergrid_script.specs.ForProofs.Read.{empty_table, table_with_line, onto_last, or_bad, table_after, table_of}
+use Rattle.papergrid_script.specs.Scripts.{IsBad, IsFirstBad, IsUnsaid, columns_said, setting_said, is_of_rows, last_or, rows_said, Describes}
+use Rattle.papergrid_script.proofs.ReadLemmas.{line_read, map_some}
+use Rattle.papergrid_script.proofs.SpellLemmas.{line_spelled}
 
 -- ---- a cell more in the last row
 
@@ -113,18 +117,32 @@ after_lines : (number : ℕ) (old new : Table) (lines : List (List ℕ)) → tab
 after_lines number old new [] h = let same : old ≡ new = cc in subst (λ t. After old t []) same (after_none old)
 after_lines number old new (line ∷ lines) h = after_said number old new line lines (λ next. after_lines (number + 1) next new lines) (line_says line) refl h
 
+-- a line is read to what it says, and says what it is read to
+said : (line : List ℕ) (s : Said) → Says line s → line_says line ≡ Some s
+said line s says = line_spelled line s says.0 says.1
+
+each_says : (lines : List (List ℕ)) (saids : List Said) → map line_says lines ≡ map (λ s. Some s) saids → AllZip Says lines saids
+each_says [] [] each = tt
+each_says [] (s ∷ saids) each = cc
+each_says (line ∷ lines) [] each = cc
+each_says (line ∷ lines) (s ∷ saids) each = (line_read line s (cc), each_says lines saids (cc))
+
 pub told : (input : List ℕ) (table : Table) → table_of input ≡ Ok table → Describes (script_lines input) table
 unfolding table_of
 told input table h =
     let after = after_lines 1 empty_table table (script_lines input) h in
-    record { saids = after.saids; each = after.each; columns_last = after.columns; settings_all = after.settings; rows_all = after.rows }
+    record { saids = after.saids; each = each_says (script_lines input) after.saids after.each; columns_last = after.columns; settings_all = after.settings; rows_all = after.rows }
 
 -- ---- bad lines
+
+-- no line before the i-th is read to the beginning of a row
+abbrev NoRowRead : List (List ℕ) → ℕ → Type 0
+NoRowRead lines i = (j : ℕ) (line : List ℕ) → j < i → slice_get lines j ≡ Some line → line_says line ≢ Some Row
 
 -- the same as `IsBad`, where rows may have begun before these lines
 abbrev BadIn : Bool → List (List ℕ) → ℕ → Type 0
 BadIn begun lines i =
-    (line : List ℕ) × (slice_get lines i ≡ Some line) × ((line_says line ≡ None) ⊎ ((text : List ℕ) × (line_says line ≡ Some (Cell text)) × (begun ≡ false) × NoRowBefore lines i))
+    (line : List ℕ) × (slice_get lines i ≡ Some line) × ((line_says line ≡ None) ⊎ ((text : List ℕ) × (line_says line ≡ Some (Cell text)) × (begun ≡ false) × NoRowRead lines i))
 
 abbrev begins_row : Said → Bool
 begins_row Row = true
@@ -176,7 +194,7 @@ bad_above begun line lines s i says bad = (
   ],
 )
   where
-    no_row_above : (line : List ℕ) (lines : List (List ℕ)) (s : Said) (i : ℕ) → line_says line ≡ Some s → begins_row s ≡ false → NoRowBefore lines i → NoRowBefore (line ∷ lines) (suc i)
+    no_row_above : (line : List ℕ) (lines : List (List ℕ)) (s : Said) (i : ℕ) → line_says line ≡ Some s → begins_row s ≡ false → NoRowRead lines i → NoRowRead (line ∷ lines) (suc i)
     no_row_above line lines s i says no_row rest zero other before at row =
         let this : line ≡ other = same_Some _ _ at in
         let begins : s ≡ Row = same_Some _ _ (sym says ∙ ap line_says this ∙ row) in
@@ -289,10 +307,28 @@ found_bad number m old [] h = cc
 found_bad number m old (line ∷ lines) h = found_said number m old line lines (λ next. found_bad (number + 1) m next lines) (line_says line) refl h
 
 is_bad : (lines : List (List ℕ)) (i : ℕ) → BadIn false lines i → IsBad lines i
-is_bad lines i bad = (bad.0, bad.1, elim bad.2 [ inl none ↦ inl none | inr cell ↦ inr (cell.0, cell.1, cell.3) ])
+is_bad lines i bad = (
+  bad.0,
+  bad.1,
+  elim bad.2 [
+    | inl none ↦ inl (λ s says. none-some s (sym none ∙ said bad.0 s says))
+    | inr cell ↦ inr (cell.0, line_read bad.0 (Cell cell.0) cell.1, λ j line before at row. cell.3 j line before at (said line Row row))
+  ],
+)
 
 bad_in : (lines : List (List ℕ)) (i : ℕ) → IsBad lines i → BadIn false lines i
-bad_in lines i bad = (bad.0, bad.1, elim bad.2 [ inl none ↦ inl none | inr cell ↦ inr (cell.0, cell.1, refl, cell.2) ])
+bad_in lines i bad = (
+  bad.0,
+  bad.1,
+  elim bad.2 [
+    | inl unsaid ↦ inl (nothing_read (line_says bad.0) refl unsaid)
+    | inr cell ↦ inr (cell.0, said bad.0 (Cell cell.0) cell.1, refl, λ j line before at row. cell.2 j line before at (line_read line Row row))
+  ],
+)
+  where
+    nothing_read : {line : List ℕ} (o : Option Said) → line_says line ≡ o → IsUnsaid line → line_says line ≡ None
+    nothing_read None is unsaid = is
+    nothing_read {line} (Some s) is unsaid = absurd (unsaid s (line_read line s is))
 
 -- ---- the whole script
 

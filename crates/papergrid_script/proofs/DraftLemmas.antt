@@ -4,7 +4,7 @@ use Rattle.std.specs.Prelude.{slice_get}
 use Rattle.std.specs.Borrow.{Bor}
 use Rattle.std.proofs.Math.Seq.{set-append_seam}
 use Rattle.std.proofs.lemmas.List.{length-map, length-set, map-append, map-set}
-use Rattle.papergrid_script.specs.Scripts.{onto_last}
+use Rattle.papergrid_script.specs.ForProofs.Read.{onto_last}
 use Rattle.papergrid_script.specs.ForProofs.Drafts.{with_last}
 use Rattle.papergrid_script.specs.Seen.{rows_seen, row_texts_of}
 

@@ -6,7 +6,8 @@ use Rattle.std.proofs.lemmas.Option.{same_Some, none-some, cond_some}
 use Rattle.std.proofs.lemmas.Str.{encode_ascii}
 use borrow.Author.Tests.{eqb-true, ltb-true, ltb-false}
 use Rattle.papergrid_text.proofs.Places.{first_in_front, no_more_than}
-use Rattle.papergrid_script.specs.Grammar.{parted_at, without_cr}
+use Rattle.papergrid_script.specs.Grammar.{parted_at}
+use Rattle.papergrid_script.specs.ForProofs.Read.{without_cr}
 use Rattle.papergrid_script.specs.Texts.{unescaped, escape_of, put_first}
 use Rattle.papergrid_script.specs.ForProofs.Escapes.{IsFirstEscape, escape_at}
 

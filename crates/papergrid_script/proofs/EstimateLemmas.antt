@@ -10,17 +10,18 @@ use Rattle.papergrid_tracks.specs.declared.error.LayoutError.TheVariants as layo
 use Rattle.papergrid_tracks.specs.declared.solution.Solved.{Solved}
 use Rattle.papergrid_tracks.specs.Problem.{Problem, total_of}
 use Rattle.papergrid_tracks.specs.Ranges.{first_out}
-use Rattle.papergrid_tracks.proofs.LeastLemmas.{exact-least, exact-critical_path}
+use Rattle.papergrid_tracks.proofs.LeastLemmas.{exact-least, exact-critical_path, past-least}
 use Rattle.papergrid_walk.specs.Cells.{problem_of}
 use Rattle.papergrid_maps.specs.Grids.{Grid}
 use Rattle.papergrid_layout.specs.Answers.{AnswersBoth, UnlessMemory, first_out_of_table}
 use Rattle.papergrid_tracks.specs.Sizings.{AreSizesBy, AreTooLargeBy, IsCertificateBy}
-use Rattle.papergrid_layout.specs.Certificates.{AreSolutionsBy, IsCertifiedBy, IsSolutionBy, Solution, solutions_of}
+use Rattle.papergrid_layout.specs.Certificates.{AreSolutionsBy, IsCertifiedBy, IsSolutionBy, Solution}
 use Rattle.papergrid_layout.proofs.Told.{first_told, problem_told, certificate_is}
 use Rattle.papergrid_layout.proofs.PairLemmas.{none_overflows}
 use Rattle.papergrid_tracks.specs.declared.sizing.Sizing.{Sizing}
 use Rattle.papergrid_tracks.specs.declared.sizing.Sizing.TheVariants.{ByShares, Least}
-use Rattle.papergrid_script.specs.Estimates.{Estimate, OutOfTable, TooLarge, Sized, unless_large, unless_out, solution_by, estimate_by}
+use Rattle.papergrid_script.specs.Estimates.{Estimate, IsEstimateBy, OutOfTable, TooLarge, Sized}
+use Rattle.papergrid_script.specs.ForProofs.Estimated.{unless_large, unless_out, solution_by, estimate_by}
 use Rattle.papergrid_script.specs.ForProofs.Sized.{GivesEstimate}
 
 -- ---- tests and options
@@ -66,7 +67,7 @@ are_found Least problem sizes are = record { none_out = are.none_out; exact = ex
 
 none_large : (sizing : Sizing) (problem : Problem) → AreTooLargeBy sizing problem → 2 ^ 64 ≤ (solution_by sizing problem).total
 none_large ByShares problem none = none.too_large
-none_large Least problem none = none.too_large
+none_large Least problem none = past-least problem none
 
 found_certificate : (sizing : Sizing) (problem : Problem) (found : Option (List Position)) → IsCertificateBy sizing problem found → found ≡ (solution_by sizing problem).certificate
 found_certificate ByShares problem found is = certificate_is problem found is
@@ -122,26 +123,37 @@ module _ {C : Type 0} (grid : Grid) (measure : C → ℕ × ℕ) (columns : ℕ)
         estimate_inside ((none_overflows grid measure columns cells).1 (wide.none_out, high.none_out)) ∙ same
         ∙ sized found (subst (λ t. t < 2 ^ 64) (sym are.widths.total) wide.total) (subst (λ t. t < 2 ^ 64) (sym are.heights.total) high.total)
 
+    -- an estimate is the one that is computed
+    pub estimate-only : (e : Estimate) → IsEstimateBy grid measure columns cells sizing e → e ≡ estimate_by sizing grid measure columns cells
+    estimate-only (OutOfTable position) is = sym (estimate_out position is)
+    estimate-only TooLarge is = sym (estimate_none is.0 is.1)
+    estimate-only (Sized found) is = sym (estimate_found found is)
+
 -- cells that are seen through a view
 module _ {A B : Type 0} (grid : Grid) (v : A → B) (f : B → ℕ × ℕ) (columns : ℕ) (cells : List (List A)) (rows : List (List B)) (same : map (map v) cells ≡ rows) where
-  pub estimate_told : (sizing : Sizing) → estimate_by sizing grid (λ x. f (v x)) columns cells ≡ estimate_by sizing grid f columns rows
-  unfolding estimate_by
-  estimate_told sizing =
-      let wide = problem_told grid v f cells rows same Columns columns in
-      let high = problem_told grid v f cells rows same Rows columns in
-      let first = first_told grid v f cells rows same columns in
-      λ i. unless_out (first i) (unless_large (solutions_by sizing (wide i) (high i)))
+  pub estimate_told : (sizing : Sizing) (e : Estimate) → IsEstimateBy grid (λ x. f (v x)) columns cells sizing e → IsEstimateBy grid f columns rows sizing e
+  estimate_told sizing (OutOfTable position) is = sym (first_told grid v f cells rows same columns) ∙ is
+  estimate_told sizing TooLarge is = (
+    sym (first_told grid v f cells rows same columns) ∙ is.0,
+    elim is.1 [
+      | inl wide ↦ inl (subst (AreTooLargeBy sizing) (problem_told grid v f cells rows same Columns columns) wide)
+      | inr high ↦ inr (subst (AreTooLargeBy sizing) (problem_told grid v f cells rows same Rows columns) high)
+    ],
+  )
+  estimate_told sizing (Sized found) is = record {
+    widths = subst (λ p. IsSolutionBy sizing p found.columns) (problem_told grid v f cells rows same Columns columns) is.widths;
+    heights = subst (λ p. IsSolutionBy sizing p found.rows) (problem_told grid v f cells rows same Rows columns) is.heights;
+  }
 
 -- ---- results
 
 -- what is certified of the cells told, or why nothing is, is their estimate
 pub estimated : {C : Type 0} (Tells : List (List C) → Type 0) (sizing : Sizing) (grid : Grid) (measure : C → ℕ × ℕ) (columns : ℕ) (result : Result (PerDirection Solved) LayoutError)
     → UnlessMemory result ((cells : List (List C)) × Tells cells × AnswersBoth grid measure columns cells sizing (IsCertifiedBy sizing) result)
-    → GivesEstimate result (λ answer. (cells : List (List C)) × Tells cells × (answer ≡ estimate_by sizing grid measure columns cells))
-estimated Tells sizing grid measure columns (Ok found) is =
-    (is.0, is.1, sym (estimate_found grid measure columns is.0 sizing (solutions_of found) (record { widths = is.2.widths; heights = is.2.heights })))
-estimated Tells sizing grid measure columns (Err (layout_errors.OutOfTable position)) is = (is.0, is.1, sym (estimate_out grid measure columns is.0 sizing position is.2))
-estimated Tells sizing grid measure columns (Err layout_errors.TooLarge) is = (is.0, is.1, sym (estimate_none grid measure columns is.0 sizing is.2.0 is.2.1))
+    → GivesEstimate result (λ estimate. (cells : List (List C)) × Tells cells × IsEstimateBy grid measure columns cells sizing estimate)
+estimated Tells sizing grid measure columns (Ok found) is = (is.0, is.1, record { widths = is.2.widths; heights = is.2.heights })
+estimated Tells sizing grid measure columns (Err (layout_errors.OutOfTable position)) is = is
+estimated Tells sizing grid measure columns (Err layout_errors.TooLarge) is = is
 estimated Tells sizing grid measure columns (Err (layout_errors.Memory e)) is = tt
 
 -- an estimate that is so is also what follows from it

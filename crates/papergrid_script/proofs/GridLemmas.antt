@@ -1,30 +1,33 @@
 -- What a walk reads of a configuration with settings as its history is what the settings decide.
-use Rattle.std.proofs.Common.{◌≡◌, ◌≤◌, ℕ, Bool, true, false, List, arith, nat_le, refl, subst}
-use Rattle.std.specs.Prelude.{IfErr, IfOk, Result, Ok, Err, flat_map, unwrap_or}
+use Rattle.std.proofs.Common.{◌≡◌, ◌∙◌, ◌<◌, ◌≤◌, ◌&&◌, ℕ, Bool, true, false, List, [], ◌∷◌, ap, arith, inl, inr, nat_le, refl, subst, sym}
+use Rattle.std.specs.Prelude.{◌↔◌, IsTrue, flat_map, reverse, unwrap_or}
+use Rattle.std.proofs.lemmas.Bool.{cases_Bool}
 use Rattle.std.proofs.lemmas.Bool.Decides.{nat_tests}
+use Rattle.papergrid_values.specs.MapKeys.{position_eq}
+use Rattle.papergrid_values.proofs.ResultLemmas.{same_answer}
 use Rattle.papergrid_values.specs.declared.position.Position.{Position}
 use Rattle.papergrid_values.specs.declared.direction.Direction.{Direction}
 use Rattle.papergrid_values.specs.declared.direction.Direction.TheVariants.{Columns, Rows}
-use Rattle.papergrid_tracks.specs.declared.error.LayoutError.{LayoutError}
-use Rattle.papergrid_tracks.specs.declared.error.LayoutError.TheVariants.{OutOfTable, TooLarge, Memory}
+use Rattle.papergrid_tables.specs.BorderParts.{HasLine, parts_from}
+use Rattle.papergrid_tables.proofs.LineTested.{horizontal_tested, vertical_tested}
+use Rattle.papergrid_tables.proofs.MadeTables.{border_history, borders_made_history}
 use Rattle.papergrid_maps.specs.StoredMap.{stored_value}
+use Rattle.papergrid_maps.specs.Grids.{Grid}
 use Rattle.papergrid_maps.specs.Spans as spans
-use Rattle.papergrid_maps.specs.Spans.{from_two, is_visible}
-use Rattle.papergrid_tables.proofs.MadeTables.{border_history}
+use Rattle.papergrid_maps.specs.Spans.{IsVisible, RemoveSpans, SetSpan, SpanCall, Spans, effective_span, from_two, is_same_direction, span_along, span_from}
 use Rattle.papergrid_maps.proofs.MadeTables.{spans_made_history, span_history}
+use Rattle.papergrid_maps.proofs.SpanVisible.{visible_test}
 use Rattle.papergrid_maps.proofs.StoredMapLemmas.{stored_effective}
 use Rattle.papergrid_config.specs.Effective as effective
-use Rattle.papergrid_config.specs.Made.{characters_of, spans_of}
+use Rattle.papergrid_config.specs.ForProofs.Made.{characters_of, spans_of}
 use Rattle.papergrid_config.specs.Parts.{character_calls, span_calls}
 use Rattle.papergrid_config.specs.History.{HasSettingHistory}
 use Rattle.papergrid_config.specs.declared.setting.Setting.{Setting}
 use Rattle.papergrid_config.specs.declared.spanned.SpannedConfig.{SpannedConfig}
-use Rattle.papergrid_maps.specs.Grids.{Grid}
-use Rattle.papergrid_maps.specs.Spans.{span_along}
 use Rattle.papergrid_config.specs.Grids.{line_along, spanned_grid}
 use Rattle.papergrid_config.proofs.GridLemmas.{same_grid_by}
-use Rattle.papergrid_layout.specs.Answers.{UnlessMemory, UnlessMemoryError}
-use Rattle.papergrid_script.specs.Grids.{grid_of}
+use Rattle.papergrid_script.specs.Grids.{IsGridOf}
+use Rattle.papergrid_script.specs.ForProofs.Estimated.{grid_of}
 
 pub grid_told : (settings : List Setting) (config : SpannedConfig) → HasSettingHistory settings config → spanned_grid config ≡ grid_of settings
 unfolding grid_of
@@ -34,43 +37,71 @@ grid_told settings config told =
     let padding_same : (p : Position) → stored_value config.padding p ≡ effective.padding settings p = λ p. stored_effective _ _ _ told.padding p in
     same_grid_by spans_same padding_same lines_same
 
--- ---- spans are 1 or more
+-- ---- spans
 
-one_at_least : (n : ℕ) → 1 ≤ unwrap_or (from_two n) 1
-one_at_least n = by_test (nat_le 2 n) refl
+span_from-some : (d : Direction) (p : Position) (calls : List SpanCall) → 1 ≤ span_from d p calls
+span_from-some d p [] = omega arith
+span_from-some d p (RemoveSpans e ∷ older) = elim (cases_Bool (is_same_direction e d)) [
+  | inl t ↦ rw t (omega arith)
+  | inr f ↦ rw f (span_from-some d p older)
+]
+span_from-some d p (SetSpan e q n ∷ older) = elim (cases_Bool (is_same_direction e d && (nat_le 1 n && position_eq q p))) [
+  | inl t ↦ rw t (some (is_same_direction e d) (nat_le 1 n) (position_eq q p) refl t)
+  | inr f ↦ rw f (span_from-some d p older)
+]
   where
-    by_test : (b : Bool) → nat_le 2 n ≡ b → 1 ≤ unwrap_or (from_two n) 1
-    by_test true e = rw e (let two : 2 ≤ n = grind (arith, nat_tests, e) in omega arith)
-    by_test false e = rw e (omega arith)
+    some : (a b c : Bool) → nat_le 1 n ≡ b → (a && (b && c)) ≡ true → 1 ≤ n
+    some true true c is t = grind (arith, nat_tests, is)
+    some true false c is t = cc
+    some false b c is t = cc
 
-spans_cover : (settings : List Setting) (direction : Direction) (p : Position) → 1 ≤ span_along (spans_of settings) direction p
-spans_cover settings Columns p = rw (spans_made_history (flat_map span_calls settings) Columns p) (one_at_least (spans.effective_span Columns p (flat_map span_calls settings)))
-spans_cover settings Rows p = rw (spans_made_history (flat_map span_calls settings) Rows p) (one_at_least (spans.effective_span Rows p (flat_map span_calls settings)))
+from_two-back : (n : ℕ) → 1 ≤ n → unwrap_or (from_two n) 1 ≡ n
+from_two-back n least = elim (cases_Bool (nat_le 2 n)) [
+  | inl t ↦ rw t refl
+  | inr f ↦ rw f (let below : n < 2 = grind (arith, nat_tests, f) in omega arith)
+]
 
-pub grid_covers : (settings : List Setting) (direction : Direction) (p : Position) → 1 ≤ (grid_of settings).span direction p
+-- the span that is read where the calls are the history
+pub span-effective : (calls : List SpanCall) (stored : Spans) → spans.HasSpanHistory calls stored → (direction : Direction) (p : Position) → span_along stored direction p ≡ effective_span direction p calls
+span-effective calls stored told Columns p = ap (λ o. unwrap_or o 1) (told Columns p) ∙ from_two-back _ (span_from-some Columns p (reverse calls))
+span-effective calls stored told Rows p = ap (λ o. unwrap_or o 1) (told Rows p) ∙ from_two-back _ (span_from-some Rows p (reverse calls))
+
+-- ---- the grid
+
+lines-decided : (settings : List Setting) (direction : Direction) (i count : ℕ) →
+    IsTrue (line_along (characters_of settings) direction count i) ↔ HasLine direction (parts_from (reverse (flat_map character_calls settings))) i count
+lines-decided settings Columns i count =
+    subst (λ parts. IsTrue (line_along (characters_of settings) Columns count i) ↔ HasLine Columns parts i count) (borders_made_history (flat_map character_calls settings)) (vertical_tested (characters_of settings) i count)
+lines-decided settings Rows i count =
+    subst (λ parts. IsTrue (line_along (characters_of settings) Rows count i) ↔ HasLine Rows parts i count) (borders_made_history (flat_map character_calls settings)) (horizontal_tested (characters_of settings) i count)
+
+pub is-grid : (settings : List Setting) → IsGridOf settings (grid_of settings)
 unfolding grid_of
-grid_covers settings direction p = spans_cover settings direction p
+is-grid settings = record {
+  spans = span-effective (flat_map span_calls settings) (spans_of settings) (spans_made_history (flat_map span_calls settings));
+  visible = visible_test (spans_of settings);
+  before = λ direction p. refl;
+  after = λ direction p. refl;
+  lines = lines-decided settings;
+}
 
--- the lines of settings
-pub grid_draws : (settings : List Setting) (direction : Direction) → (grid_of settings).draws direction ≡ line_along (characters_of settings) direction
-unfolding grid_of
-grid_draws settings direction = refl
+-- settings decide one grid
+pub one-grid : (settings : List Setting) (grid other : Grid) → IsGridOf settings grid → IsGridOf settings other → grid ≡ other
+one-grid settings grid other is also =
+    let span : (direction : Direction) (p : Position) → grid.span direction p ≡ other.span direction p = λ direction p. is.spans direction p ∙ sym (also.spans direction p) in
+    let spans : grid.span ≡ other.span = λ i direction p. span direction p i in
+    let shows : (p : Position) → grid.shows p ≡ other.shows p = λ p. same_answer _ _ (subst (λ s. IsTrue (grid.shows p) ↔ IsVisible s p) spans (is.visible p)) (also.visible p) in
+    let draws : (direction : Direction) (count i : ℕ) → grid.draws direction count i ≡ other.draws direction count i = λ direction count i. same_answer _ _ (is.lines direction i count) (also.lines direction i count) in
+    λ k. record {
+      shows = λ p. shows p k;
+      span = λ direction p. span direction p k;
+      before = λ direction p. (is.before direction p ∙ sym (also.before direction p)) k;
+      after = λ direction p. (is.after direction p ∙ sym (also.after direction p)) k;
+      draws = λ direction count i. draws direction count i k;
+    }
 
--- ---- answers, by what is read
+pub grid-decided : (settings : List Setting) (config : SpannedConfig) → HasSettingHistory settings config → IsGridOf settings (spanned_grid config)
+grid-decided settings config told = subst (IsGridOf settings) (sym (grid_told settings config told)) (is-grid settings)
 
--- what holds of a result by one look holds of it by the same look
-pub answer_read : {A C : Type 0} (Tells : List (List C) → Type 0) (holds : Grid → List (List C) → Result A LayoutError → Type 0) (grid other : Grid) (same : grid ≡ other) (result : Result A LayoutError)
-    → IfOk result (λ x. (cells : List (List C)) × Tells cells × holds grid cells (Ok x))
-    → IfErr result (λ e. UnlessMemoryError e ((cells : List (List C)) × Tells cells × holds grid cells (Err e)))
-    → UnlessMemory result ((cells : List (List C)) × Tells cells × holds other cells result)
-answer_read {C = C} Tells holds grid other same (Ok x) ok err = subst (λ l. (cells : List (List C)) × Tells cells × holds l cells (Ok x)) same ok
-answer_read {C = C} Tells holds grid other same (Err (OutOfTable position)) ok err = subst (λ l. (cells : List (List C)) × Tells cells × holds l cells (Err (OutOfTable position))) same err
-answer_read {C = C} Tells holds grid other same (Err TooLarge) ok err = subst (λ l. (cells : List (List C)) × Tells cells × holds l cells (Err TooLarge)) same err
-answer_read Tells holds grid other same (Err (Memory e)) ok err = tt
-
--- what holds of a result by a configuration holds of it by the settings that this is told
-pub settings_read : {A C : Type 0} (Tells : List (List C) → Type 0) (holds : Grid → List (List C) → Result A LayoutError → Type 0) (settings : List Setting) (config : SpannedConfig) → HasSettingHistory settings config → (result : Result A LayoutError)
-    → IfOk result (λ x. (cells : List (List C)) × Tells cells × holds (spanned_grid config) cells (Ok x))
-    → IfErr result (λ e. UnlessMemoryError e ((cells : List (List C)) × Tells cells × holds (spanned_grid config) cells (Err e)))
-    → UnlessMemory result ((cells : List (List C)) × Tells cells × holds (grid_of settings) cells result)
-settings_read Tells holds settings config told = answer_read Tells holds (spanned_grid config) (grid_of settings) (grid_told settings config told)
+pub grid_covers : (settings : List Setting) (grid : Grid) → IsGridOf settings grid → (direction : Direction) (p : Position) → 1 ≤ grid.span direction p
+grid_covers settings grid is direction p = subst (λ n. 1 ≤ n) (sym (is.spans direction p)) (span_from-some direction p (reverse (flat_map span_calls settings)))

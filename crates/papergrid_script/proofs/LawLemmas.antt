@@ -1,6 +1,6 @@
--- What the estimate of a table says of the table.
-use Rattle.std.proofs.Common.{◌≡◌, ◌⊎◌, ◌∙◌, ℕ, ◌<◌, ◌≤◌, ◌+◌, ◌^◌, Bool, true, false, ◌||◌, length, map, refl, ap, sym, subst, arith, inl, inr, nat_le}
-use Rattle.std.specs.Prelude.{◌↔◌, All, Option, Some, None, sum, if◌then◌else◌}
+-- Each table has an estimate, and no other.
+use Rattle.std.proofs.Common.{◌≡◌, ◌⊎◌, ◌∙◌, ℕ, ◌<◌, ◌≤◌, ◌^◌, Bool, true, false, ◌||◌, map, refl, sym, subst, arith, inl, inr, nat_le}
+use Rattle.std.specs.Prelude.{All, Option, Some, None, if◌then◌else◌}
 use Rattle.std.proofs.lemmas.Bool.Decides.{nat_tests}
 use Rattle.std.proofs.lemmas.List.Elements.{All-map}
 use Rattle.papergrid_values.specs.declared.per_direction.PerDirection.{PerDirection}
@@ -16,25 +16,22 @@ use Rattle.papergrid_tracks.specs.Sizes.{sizes_of}
 use Rattle.papergrid_tracks.proofs.LaminarLemmas.{Decides-is_laminar, SomeCross-from_test}
 use Rattle.papergrid_tracks.proofs.OutLemmas as out_lemmas
 use Rattle.papergrid_tracks.proofs.Theorems.{AreSizes-sizes_of, Fits-sizes_of, IsCertificate-certificate_cells_of, AreSizesTooLarge-sizes_of}
-use Rattle.papergrid_tracks.specs.Least.{least_of}
-use Rattle.papergrid_tracks.proofs.LeastLemmas.{AreLeastSizes-least_of, AreCriticalPath-critical_path, IsLeast-least_of, AreLeastTooLarge-least_of}
-use Rattle.papergrid_values.specs.Lines.{all_lines}
-use Rattle.papergrid_walk.specs.Cells.{demand_by, visible_cells}
+use Rattle.papergrid_tracks.proofs.LeastLemmas.{AreLeastSizes-least_of, AreCriticalPath-critical_path, AreLeastTooLarge-least_of}
+use Rattle.papergrid_walk.specs.Cells.{demand_by, problem_of, visible_cells}
 use Rattle.papergrid_maps.specs.Grids.{Grid}
 use Rattle.papergrid_layout.specs.Answers.{first_out_of_table}
 use Rattle.papergrid_layout.specs.Certificates.{certificate_by_shares}
 use Rattle.papergrid_layout.proofs.PairLemmas.{none_overflows}
 use Rattle.papergrid_tracks.specs.declared.sizing.Sizing.{Sizing}
 use Rattle.papergrid_tracks.specs.declared.sizing.Sizing.TheVariants.{ByShares, Least}
-use Rattle.papergrid_script.specs.Estimates.{Estimate, OutOfTable, TooLarge, Sized, unless_large, unless_out, solution_by, estimate_by, estimate_of}
+use Rattle.papergrid_script.specs.Estimates.{Estimate, IsEstimate, IsEstimateBy, OutOfTable, TooLarge, Sized}
+use Rattle.papergrid_script.specs.ForProofs.Estimated.{estimate_by, estimate_of, grid_of, solution_by, unless_large, unless_out}
 use Rattle.papergrid_walk.specs.Measures.{text_measure}
-use Rattle.papergrid_script.specs.Grids.{grid_of}
 use Rattle.papergrid_script.specs.Scripts.{Table}
-use Rattle.papergrid_script.specs.Totals.{AreSized, IsTableTooLarge, problem_of_table}
 use Rattle.papergrid_tracks.specs.Sizings.{AreSizesBy, AreTooLargeBy, IsCertificateBy}
 use Rattle.papergrid_layout.specs.Certificates.{IsSolutionBy, Solution}
-use Rattle.papergrid_script.proofs.EstimateLemmas.{estimate_large, estimate_out, solutions_by, total_by}
-use Rattle.papergrid_script.proofs.GridLemmas.{grid_covers, grid_draws}
+use Rattle.papergrid_script.proofs.EstimateLemmas.{estimate-only, solutions_by, total_by}
+use Rattle.papergrid_script.proofs.GridLemmas.{grid_covers, is-grid, one-grid}
 
 -- ---- along a direction
 
@@ -60,13 +57,11 @@ module _ (problem : Problem) (table : All (IsInTable problem.count) problem.dema
   is_certificate ByShares small = shares_certificate small
   is_certificate Least small = AreCriticalPath-critical_path problem table inside small
 
-  -- where the least sizes are too large, so are those by shares
-  least_past : 2 ^ 64 ≤ total_of problem (least_of problem) → 2 ^ 64 ≤ total_of problem (sizes_of problem)
-  least_past past =
-      let past' : 18446744073709551616 ≤ sum (least_of problem) + all_lines problem.line problem.count = past in
-      let le : sum (least_of problem) ≤ sum (sizes_of problem) = (IsLeast-least_of problem table).least (sizes_of problem) (Fits-sizes_of problem table) in
-      let all : 18446744073709551616 ≤ sum (sizes_of problem) + all_lines problem.line problem.count = omega arith in
-      all
+-- where the least sizes are too large, so are those by shares
+shares-past : (problem : Problem) → AreTooLargeBy Least problem → AreTooLargeBy ByShares problem
+shares-past problem none =
+    let past : 18446744073709551616 ≤ total_of problem (sizes_of problem) = none.others_too_large (sizes_of problem) (Fits-sizes_of problem none.table) in
+    AreSizesTooLarge-sizes_of problem none.table (λ small. absurd (omega arith))
 
 -- ---- the three answers
 
@@ -90,6 +85,10 @@ estimate_cases None found e is = elim (by_test found.columns.total found.rows.to
         let low : n < 2 ^ 64 = grind (arith, nat_tests) in
         inr (sym is ∙ rw (wide, high) refl, narrow, low)
 
+-- what the sizes of a table along a direction are found for
+abbrev problem_of_table : Table → Direction → Problem
+problem_of_table table = problem_of (grid_of table.settings) text_measure table.columns table.rows
+
 module _ (table : Table) where
   abbrev grid : Grid
   grid = grid_of table.settings
@@ -101,9 +100,12 @@ module _ (table : Table) where
       → All (IsInTable (problem_of_table table direction).count) (problem_of_table table direction).demands
   in_table direction inside =
       out_lemmas.none_out (problem_of_table table direction).count (problem_of_table table direction).demands inside
-      (All-map (λ (d : Demand). 1 ≤ d.span) (demand_by direction grid text_measure) (visible_cells grid table.rows) (λ k x l. grid_covers table.settings direction _))
+      (All-map (λ (d : Demand). 1 ≤ d.span) (demand_by direction grid text_measure) (visible_cells grid table.rows) (λ k x l. grid_covers table.settings grid (is-grid table.settings) direction _))
 
   module _ (sizing : Sizing) where
+    abbrev IsBy : Estimate → Type 0
+    IsBy = IsEstimateBy grid text_measure table.columns table.rows sizing
+
     abbrev along : Direction → Solution
     along direction = solution_by sizing (problem_of_table table direction)
 
@@ -131,61 +133,50 @@ module _ (table : Table) where
           certificate = is_certificate problem (in_table direction inside) inside sizing small;
         }
 
-    are_sized : first ≡ None → total Columns < 2 ^ 64 → total Rows < 2 ^ 64 → AreSized sizing table solutions
+    are_sized : first ≡ None → total Columns < 2 ^ 64 → total Rows < 2 ^ 64 → IsBy (Sized solutions)
     are_sized none narrow low =
         let inside = (none_overflows grid text_measure table.columns table.rows).0 none in
-        record {
-          solutions = record { widths = solution_is Columns inside.0 narrow; heights = solution_is Rows inside.1 low };
-          is_width = total_by sizing (problem_of_table table Columns) ∙ ap (λ draws. sum (along Columns).sizes + all_lines (draws table.columns) table.columns) (grid_draws table.settings Columns);
-          is_height = total_by sizing (problem_of_table table Rows) ∙ ap (λ draws. sum (along Rows).sizes + all_lines (draws (length table.rows)) (length table.rows)) (grid_draws table.settings Rows);
-          width_fits = narrow;
-          height_fits = low;
-        }
+        record { widths = solution_is Columns inside.0 narrow; heights = solution_is Rows inside.1 low }
 
-    are_large : first ≡ None → (2 ^ 64 ≤ total Columns) ⊎ (2 ^ 64 ≤ total Rows) → IsTableTooLarge sizing table
+    are_large : first ≡ None → (2 ^ 64 ≤ total Columns) ⊎ (2 ^ 64 ≤ total Rows) → IsBy TooLarge
     are_large none past =
-        let inside = (none_overflows grid text_measure table.columns table.rows).0 none in
-        record {
-          inside = none;
-          too_large = elim past [
+        let inside = (none_overflows grid text_measure table.columns table.rows).0 none in (
+          none,
+          elim past [
             | inl wide ↦ inl (has_none (problem_of_table table Columns) (in_table Columns inside.0) inside.0 sizing wide)
             | inr high ↦ inr (has_none (problem_of_table table Rows) (in_table Rows inside.1) inside.1 sizing high)
-          ];
-        }
+          ],
+        )
 
-    pub out_named : (position : Position) → (estimate_of sizing table ≡ OutOfTable position) ↔ (first ≡ Some position)
-    out_named position = (
-      λ is. elim (cases (OutOfTable position) is) [
-        | inl out ↦ let same : out.0 ≡ position = cc out.2 in out.1 ∙ ap (λ p. Some p) same
-        | inr other ↦ elim other [ inl large ↦ cc large.1 | inr sized ↦ cc sized.1 ]
-      ],
-      estimate_out grid text_measure table.columns table.rows sizing position,
-    )
-
-    named_large : estimate_of sizing table ≡ TooLarge → (first ≡ None) × ((2 ^ 64 ≤ total Columns) ⊎ (2 ^ 64 ≤ total Rows))
-    named_large is = elim (cases TooLarge is) [
-      | inl out ↦ cc out.2
-      | inr other ↦ elim other [ inl large ↦ (large.0, large.2) | inr sized ↦ cc sized.1 ]
-    ]
-
-    pub too_large : estimate_of sizing table ≡ TooLarge → IsTableTooLarge sizing table
-    too_large is = let named = named_large is in are_large named.0 named.1
-
-    pub all_sized : (found : PerDirection Solution) → estimate_of sizing table ≡ Sized found → AreSized sizing table found
-    all_sized found is = elim (cases (Sized found) is) [
-      | inl out ↦ cc out.2
+    -- what is computed is the estimate
+    computed : IsBy (estimate_of sizing table)
+    computed = elim (cases (estimate_of sizing table) refl) [
+      | inl out ↦ subst IsBy (sym out.2) out.1
       | inr other ↦ elim other [
-        | inl large ↦ cc large.1
-        | inr sized ↦ let same : solutions ≡ found = cc sized.1 in subst (AreSized sizing table) same (are_sized sized.0 sized.2 sized.3)
+        | inl large ↦ subst IsBy (sym large.1) (are_large large.0 large.2)
+        | inr sized ↦ subst IsBy (sym sized.1) (are_sized sized.0 sized.2 sized.3)
       ]
     ]
 
+    pub estimate-computed : IsEstimate sizing table (estimate_of sizing table)
+    estimate-computed = (grid, is-grid table.settings, computed)
+
+    -- and no other is
+    pub only-estimate : (e : Estimate) → IsEstimate sizing table e → e ≡ estimate_of sizing table
+    only-estimate e is =
+        let so = subst (λ g. IsEstimateBy g text_measure table.columns table.rows sizing e) (one-grid table.settings is.0 grid is.1 (is-grid table.settings)) is.2 in
+        estimate-only grid text_measure table.columns table.rows sizing e so
+
   -- where the least sizes are refused as too large, so are those by shares
-  pub least_too_large : estimate_of Least table ≡ TooLarge → estimate_of ByShares table ≡ TooLarge
-  least_too_large is =
-      let named = named_large Least is in
-      let inside = (none_overflows grid text_measure table.columns table.rows).0 named.0 in
-      estimate_large grid text_measure table.columns table.rows ByShares named.0 (elim named.1 [
-        | inl wide ↦ inl (least_past (problem_of_table table Columns) (in_table Columns inside.0) inside.0 wide)
-        | inr high ↦ inr (least_past (problem_of_table table Rows) (in_table Rows inside.1) inside.1 high)
-      ])
+  pub least_too_large : IsEstimate Least table TooLarge → IsEstimate ByShares table TooLarge
+  least_too_large is = (
+    is.0,
+    is.1,
+    (
+      is.2.0,
+      elim is.2.1 [
+        | inl wide ↦ inl (shares-past (problem_of is.0 text_measure table.columns table.rows Columns) wide)
+        | inr high ↦ inr (shares-past (problem_of is.0 text_measure table.columns table.rows Rows) high)
+      ],
+    ),
+  )

@@ -10,10 +10,12 @@ mod LawLemmas
 mod LineLemmas
 mod ListedLemmas
 mod MarkLemmas
+mod OutcomeLemmas
 mod RangeLemmas
 mod ReadLemmas
 mod ReasonLemmas
 pub mod RunLemmas
+mod ScriptLemmas
 mod ScriptLineLemmas
 mod SeenLemmas
 mod SpellLemmas

@@ -5,8 +5,11 @@ use Rattle.std.specs.List.{slice_split}
 use Rattle.std.specs.Str.{IsUtf8, chars, is_utf8}
 use Rattle.std.proofs.lemmas.Str.{is_utf8-from_IsUtf8}
 use Rattle.std.proofs.lemmas.Bool.Decides.{nat_tests}
-use Rattle.papergrid_script.specs.Grammar.{Said, Nothing, line_says, text_says, without_cr, without_empty_last, script_lines}
-use Rattle.papergrid_script.specs.Scripts.{Table, empty_table, table_with_line, or_bad, table_after, table_of}
+use Rattle.papergrid_script.specs.Spelling.{Said, Nothing}
+use Rattle.papergrid_script.specs.Grammar.{line_says, text_says}
+use Rattle.papergrid_script.specs.ForProofs.Read.{without_cr, without_empty_last, script_lines}
+use Rattle.papergrid_script.specs.Scripts.{Table}
+use Rattle.papergrid_script.specs.ForProofs.Read.{empty_table, table_with_line, or_bad, table_after, table_of}
 
 or_bad-same : (number : ℕ) (o : Option Table) (f g : Table → Result Table ℕ) → ((table : Table) → f table ≡ g table) → or_bad number o f ≡ or_bad number o g
 or_bad-same number None f g h = refl

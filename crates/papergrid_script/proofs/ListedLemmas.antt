@@ -19,9 +19,9 @@ use Rattle.papergrid_tables.specs.BorderCalls.{BorderCall}
 use Rattle.papergrid_values.specs.MapKeys.{position_cmp}
 use Rattle.papergrid_tables.specs.LineTests.{ends_at_column, ends_at_row, vertical_line_at, horizontal_line_at}
 use Rattle.papergrid_values.specs.Tabulated.{tabulation, with_value}
-use Rattle.papergrid_tables.specs.Made.{borders_made, named_columns, named_positions, named_rows}
+use Rattle.papergrid_tables.specs.ForProofs.Made.{borders_made, named_columns, named_positions, named_rows}
 use Rattle.papergrid_tables.specs.BorderParts.{at_ends, parts_from}
-use Rattle.papergrid_maps.specs.Made.{named_anchors, spans_made}
+use Rattle.papergrid_maps.specs.ForProofs.Made.{named_anchors, spans_made}
 use Rattle.papergrid_maps.specs.Spans.{SpanCall, Spans, effective_span, from_two, is_hidden_by, is_visible, span_along}
 use Rattle.papergrid_values.proofs.KeyLemmas.{position_total}
 use Rattle.papergrid_config.specs.Effective as effective
@@ -31,12 +31,15 @@ use Rattle.papergrid_maps.specs.Grids.{Grid, size_after, size_before}
 use Rattle.papergrid_config.specs.Grids.{line_along}
 use Rattle.papergrid_tracks.specs.declared.sizing.Sizing.{Sizing}
 use Rattle.papergrid_script.specs.declared.answer.RunEnd.{RunEnd}
-use Rattle.papergrid_script.specs.Estimates.{Estimate, estimate_by, estimate_of}
+use Rattle.papergrid_script.specs.declared.answer.RunEnd.TheVariants.{BadScript}
+use Rattle.papergrid_script.proofs.OutcomeLemmas.{outcome-computed, outcome-only}
+use Rattle.papergrid_script.specs.Estimates.{Estimate}
+use Rattle.papergrid_script.specs.ForProofs.Estimated.{estimate_by, estimate_of, grid_of, outcome_of}
 use Rattle.papergrid_walk.specs.Measures.{text_measure}
-use Rattle.papergrid_script.specs.Grids.{grid_of}
-use Rattle.papergrid_script.specs.Outputs.{estimate_end, estimate_text, script_end, script_text, output_by, end_by}
+use Rattle.papergrid_script.specs.Outputs.{bad_line_text, estimate_end, estimate_text, outcome_end, outcome_text}
 use Rattle.papergrid_script.specs.Rows.{GivesBy}
-use Rattle.papergrid_script.specs.Scripts.{Table, table_of}
+use Rattle.papergrid_script.specs.Scripts.{Table}
+use Rattle.papergrid_script.specs.ForProofs.Read.{table_of}
 
 no_entries : {A : Type 0} (es : List A) → length es ≡ 0 → es ≡ []
 no_entries [] e = refl
@@ -229,23 +232,30 @@ estimate_listed : (sizing : Sizing) (table : Table) → estimate_of sizing table
 estimate_listed sizing table = ap (λ grid. estimate_by sizing grid text_measure table.columns table.rows) (grid_listed table.settings)
 
 abbrev pub listed_text : Sizing → Result Table ℕ → List ℕ
-listed_text sizing (Err number) = script_text sizing (Err number)
+listed_text sizing (Err number) = bad_line_text number
 listed_text sizing (Ok table) = estimate_text (listed_estimate sizing table)
 
 abbrev pub listed_end : Sizing → Result Table ℕ → RunEnd
-listed_end sizing (Err number) = script_end sizing (Err number)
+listed_end sizing (Err number) = BadScript
 listed_end sizing (Ok table) = estimate_end (listed_estimate sizing table)
 
-same_text : (sizing : Sizing) (told : Result Table ℕ) → script_text sizing told ≡ listed_text sizing told
+same_text : (sizing : Sizing) (script : Result Table ℕ) → outcome_text (outcome_of sizing script) ≡ listed_text sizing script
 same_text sizing (Err number) = refl
 same_text sizing (Ok table) = ap estimate_text (estimate_listed sizing table)
 
-same_end : (sizing : Sizing) (told : Result Table ℕ) → script_end sizing told ≡ listed_end sizing told
+same_end : (sizing : Sizing) (script : Result Table ℕ) → outcome_end (outcome_of sizing script) ≡ listed_end sizing script
 same_end sizing (Err number) = refl
 same_end sizing (Ok table) = ap estimate_end (estimate_listed sizing table)
 
 -- a worked script gives what is computed of it
 pub worked : (sizing : Sizing) (script output : List ℕ) (end : RunEnd) → listed_text sizing (table_of script) ≡ output → listed_end sizing (table_of script) ≡ end → GivesBy sizing script output end
-unfolding output_by end_by
 worked sizing script output end text ends =
-    record { written = same_text sizing (table_of script) ∙ text; ended = same_end sizing (table_of script) ∙ ends }
+    let outcome = outcome_of sizing (table_of script) in
+    let end_is : outcome_end outcome ≡ end = same_end sizing (table_of script) ∙ ends in
+    let text_is : outcome_text outcome ≡ output = same_text sizing (table_of script) ∙ text in
+    record {
+      answer = (outcome, outcome-computed sizing script, (sym end_is, sym text_is));
+      alone = λ other bytes is.
+          let same = outcome-only sizing script is.0 is.1 in
+          (is.2.0 ∙ ap outcome_end same ∙ end_is, is.2.1 ∙ ap outcome_text same ∙ text_is);
+    }

@@ -1,6 +1,6 @@
 -- The settings of a script are in range; what holds of all settings of a list holds of each.
-use Rattle.std.proofs.Common.{◌≡◌, ◌∷◌, ◌++◌, [], ℕ, List, true, Some, Result, Ok, Err, IfOk, map, refl, sym, subst}
-use Rattle.std.specs.List.{All, filter_map}
+use Rattle.std.proofs.Common.{◌≡◌, ◌∷◌, ◌++◌, [], ℕ, List, true, Result, Ok, Err, IfOk, refl, sym, subst}
+use Rattle.std.specs.List.{All, AllZip, filter_map}
 use Rattle.std.proofs.lemmas.List.Elements.{All-nil, All-cons, All-head, All-tail}
 use Rattle.papergrid_config.specs.Applied.{is_in_range}
 use Rattle.papergrid_config.specs.declared.setting.Setting.{Setting}
@@ -9,13 +9,9 @@ use Rattle.papergrid_script.specs.declared.script.ScriptError.{ScriptError}
 use Rattle.papergrid_script.specs.declared.script_setting.ScriptSetting.{ScriptSetting}
 use Rattle.papergrid_script.specs.declared.script_setting.ScriptSetting.TheVariants.{Padding, ColumnSpan, RowSpan, VerticalLine, HorizontalLine, NoVerticalLine, NoHorizontalLine}
 use Rattle.papergrid_script.specs.declared.script_setting.ScriptSetting.TheVariants as script_settings
-use Rattle.papergrid_script.specs.Grammar.{Said, Nothing, Columns, Set, Row, Cell, line_says, script_lines}
-use Rattle.papergrid_script.specs.Scripts.{Table, table_of}
 use Rattle.papergrid_script.specs.Settings.{setting_told}
-use Rattle.papergrid_script.specs.Spelling.{IsSetting, Pad, Colspan, Rowspan, Border, Vline, Hline, Novline, Nohline}
-use Rattle.papergrid_script.specs.Describes.{setting_said}
-use Rattle.papergrid_script.proofs.ReadLemmas.{line_read}
-use Rattle.papergrid_script.proofs.DescribesLemmas.{told}
+use Rattle.papergrid_script.specs.Scripts.{IsScript, Table, setting_said}
+use Rattle.papergrid_script.specs.Spelling.{Said, Nothing, Columns, Set, Row, Cell, Says, IsSetting, Pad, Colspan, Rowspan, Border, Vline, Hline, Novline, Nohline}
 
 abbrev InRange : Setting → Type 0
 InRange setting = is_in_range setting ≡ true
@@ -30,21 +26,19 @@ spelled_in_range _ _ (Hline digits x row c is_number is_character) = refl
 spelled_in_range _ _ (Novline digits col is_number) = refl
 spelled_in_range _ _ (Nohline digits row is_number) = refl
 
-saids_in_range : (lines : List (List ℕ)) (saids : List Said) → map line_says lines ≡ map (λ s. Some s) saids → All InRange (filter_map setting_said saids)
+saids_in_range : (lines : List (List ℕ)) (saids : List Said) → AllZip Says lines saids → All InRange (filter_map setting_said saids)
 saids_in_range lines [] each = All-nil InRange
-saids_in_range [] (s ∷ saids) each = cc
-saids_in_range (line ∷ lines) (Nothing ∷ saids) each = saids_in_range lines saids (cc)
-saids_in_range (line ∷ lines) (Columns n ∷ saids) each = saids_in_range lines saids (cc)
-saids_in_range (line ∷ lines) (Set setting ∷ saids) each =
-    let says : line_says line ≡ Some (Set setting) = cc in
-    All-cons InRange setting _ (spelled_in_range line setting (line_read line (Set setting) says).1) (saids_in_range lines saids (cc))
-saids_in_range (line ∷ lines) (Row ∷ saids) each = saids_in_range lines saids (cc)
-saids_in_range (line ∷ lines) (Cell text ∷ saids) each = saids_in_range lines saids (cc)
+saids_in_range [] (s ∷ saids) each = absurd each
+saids_in_range (line ∷ lines) (Nothing ∷ saids) each = saids_in_range lines saids each.1
+saids_in_range (line ∷ lines) (Columns n ∷ saids) each = saids_in_range lines saids each.1
+saids_in_range (line ∷ lines) (Set setting ∷ saids) each = All-cons InRange setting _ (spelled_in_range line setting each.0.1) (saids_in_range lines saids each.1)
+saids_in_range (line ∷ lines) (Row ∷ saids) each = saids_in_range lines saids each.1
+saids_in_range (line ∷ lines) (Cell text ∷ saids) each = saids_in_range lines saids each.1
 
-pub settings_in_range : (input : List ℕ) (table : Table) → table_of input ≡ Ok table → All InRange table.settings
-settings_in_range input table h =
-    let tells = told input table h in
-    subst (All InRange) (sym tells.settings_all) (saids_in_range (script_lines input) tells.saids tells.each)
+pub settings_in_range : (input : List ℕ) (table : Table) → IsScript input (Ok table) → All InRange table.settings
+settings_in_range input table is =
+    let describes = is.2 in
+    subst (All InRange) (sym describes.settings_all) (saids_in_range is.0 describes.saids describes.each)
 
 told_in_range : (setting : ScriptSetting) → InRange (setting_told setting)
 told_in_range (Padding entity sides) = refl

@@ -1,12 +1,13 @@
 -- The lines of a script are what their relation says, and nothing else is.
 use Rattle.std.proofs.Common.{◌≡◌, ◌≢◌, ℕ, ◌-◌, ◌+◌, ◌<◌, List, [], ◌∷◌, ◌++◌, Bool, true, false, inl, inr, add-one, length, take, drop, get_or, map, nat_eq, refl, sym, ap, ◌∙◌, arith, length-append, take-append-drop}
+use Rattle.std.specs.List.{AllZip}
 use Rattle.std.proofs.lemmas.Bool.Decides.{nat_tests}
 use Rattle.std.proofs.lemmas.List.{append_cancel_right, drop_all}
 use Rattle.std.proofs.Math.Seq.{drop-cons, get_or-append_seam}
 use Rattle.papergrid_text.proofs.Splits.{is_split, only_split}
 use Rattle.papergrid_text.specs.Text.{split_lines}
-use Rattle.papergrid_script.specs.Grammar.{script_lines, without_cr, without_empty_last}
-use Rattle.papergrid_script.specs.ScriptLines.{AreScriptLines, AreWithoutReturns, IsWithoutLast}
+use Rattle.papergrid_script.specs.ForProofs.Read.{script_lines, without_cr, without_empty_last}
+use Rattle.papergrid_script.specs.ScriptLines.{AreScriptLines, IsWithoutLast}
 
 -- ---- one element less at the end, or none
 
@@ -44,11 +45,11 @@ without_cr-is line = by_test (nat_eq (get_or line (length line - 1) 0) 13) refl
         differs : (front : List ℕ) → line ≡ front ++ 13 ∷ [] → nat_eq (get_or line (length line - 1) 0) 13 ≡ false → ⊥
         differs front same e = let at : get_or line (length line - 1) 0 ≡ 13 = rw same (last_of 13 front) in grind (arith, nat_tests, e, at)
 
-all_without : (kept : List (List ℕ)) → AreWithoutReturns kept (map without_cr kept)
+all_without : (kept : List (List ℕ)) → AllZip (IsWithoutLast 13) kept (map without_cr kept)
 all_without [] = tt
 all_without (piece ∷ pieces) = (without_cr-is piece, all_without pieces)
 
-all_without-only : (kept lines : List (List ℕ)) → AreWithoutReturns kept lines → lines ≡ map without_cr kept
+all_without-only : (kept lines : List (List ℕ)) → AllZip (IsWithoutLast 13) kept lines → lines ≡ map without_cr kept
 all_without-only [] [] are = refl
 all_without-only [] (line ∷ lines) are = absurd are
 all_without-only (piece ∷ pieces) [] are = absurd are

@@ -1,6 +1,6 @@
--- What the lines of a script say.
-use Rattle.std.specs.Prelude.{ℕ, ◌-◌, ◌^◌, ◌&&◌, List, [], ◌∷◌, map, length, take, drop, Option, Some, None, option_map, ◌==◌, nat_lt, nat_eq, slice_index, if◌then◌else◌, codes, bytes_eq}
-use Rattle.std.specs.List.{slice_split, starts_with, before_first, after_first, before_last, after_last, position_or_len}
+-- How a line of a script is read. What it says is told by how it is spelled (`Spelling`); this is how that is computed.
+use Rattle.std.specs.Prelude.{ℕ, ◌^◌, ◌&&◌, List, [], length, drop, Option, Some, None, option_map, ◌==◌, nat_lt, nat_eq, if◌then◌else◌, codes, bytes_eq}
+use Rattle.std.specs.List.{starts_with, before_first, after_first, before_last, after_last, position_or_len}
 use Rattle.std.specs.Str.{is_utf8, all_ascii_digits}
 use Rattle.std.specs.Str.Parse.{digits_value}
 use Rattle.papergrid_values.specs.Compact.{spaces}
@@ -9,32 +9,19 @@ use Rattle.papergrid_values.specs.declared.entity.Entity.TheVariants as entities
 use Rattle.papergrid_values.specs.declared.indent.Indent.{Indent}
 use Rattle.papergrid_values.specs.declared.position.Position.{Position}
 use Rattle.papergrid_values.specs.declared.sides.Sides.{Sides}
-use Rattle.papergrid_values.specs.declared.horizontal_line.HorizontalLine.{HorizontalLine}
-use Rattle.papergrid_values.specs.declared.vertical_line.VerticalLine.{VerticalLine}
 use Rattle.papergrid_values.specs.Borders.{frame_with}
 use Rattle.papergrid_values.specs.Positions as positions
 use Rattle.papergrid_config.specs.declared.setting.Setting.{Setting}
 use Rattle.papergrid_config.specs.declared.setting.Setting.TheVariants.{SetPadding, SetColumnSpan, SetRowSpan, SetBorders, InsertVerticalLine, InsertHorizontalLine, RemoveVerticalLine, RemoveHorizontalLine}
 use Rattle.papergrid_text.specs.Text.{character_of}
-use Rattle.papergrid_script.specs.Texts.{newline, unescaped}
+use Rattle.papergrid_script.specs.Spelling.{Said, Nothing, Columns, Set, Row, Cell, comma, space, horizontal_main, vertical_main}
+use Rattle.papergrid_script.specs.Texts.{unescaped}
 
 infixl 10 ◌>>=◌
 -- the second step with what the first gave, where it gave something
 abbrev pub ◌>>=◌ : {A B : Type 0} → Option A → (A → Option B) → Option B
 None >>= f = None
 (Some x) >>= f = f x
-
--- the byte of a space
-abbrev pub space : ℕ
-space = 32
-
--- the byte of a comma
-abbrev pub comma : ℕ
-comma = 44
-
--- the byte of a carriage return
-abbrev pub carriage_return : ℕ
-carriage_return = 13
 
 -- what stands before the first such byte, and what stands after it
 abbrev pub parted_at : ℕ → List ℕ → Option (List ℕ × List ℕ)
@@ -107,14 +94,6 @@ position_and_count spelled = pair_at space position_said number_said spelled
 unfoldable pub number_and_character : List ℕ → Option (ℕ × ℕ)
 number_and_character spelled = pair_at space number_said character_of spelled
 
--- lines of one character, whose crossings and ends are not set
-abbrev pub vertical_main : ℕ → VerticalLine ℕ
-vertical_main c = record { main = Some c; intersection = None; top = None; bottom = None }
-
--- the same of a horizontal line
-abbrev pub horizontal_main : ℕ → HorizontalLine ℕ
-horizontal_main c = record { main = Some c; intersection = None; left = None; right = None }
-
 -- ---- settings
 
 -- a keyword, and what stands after it and a space
@@ -131,14 +110,6 @@ keyword_setting keyword rest =
     else None
 
 -- ---- lines of a script
-
--- what a line of a script says
-pub data Said : Type 0 where
-  Nothing : Said
-  Columns : ℕ → Said
-  Set : Setting → Said
-  Row : Said
-  Cell : List ℕ → Said
 
 -- a keyword, and what stands after it and a space
 unfoldable pub keyword_says : List ℕ → List ℕ → Option Said
@@ -158,19 +129,3 @@ text_says line =
 -- what a line says, if it is text and says anything
 unfoldable pub line_says : List ℕ → Option Said
 line_says line = if is_utf8 line then text_says line else None
-
--- ---- all lines of a script
-
--- a CR at the end is dropped
-abbrev pub without_cr : List ℕ → List ℕ
-without_cr line = if slice_index line (length line - 1) == carriage_return then take (length line - 1) line else line
-
--- a last part that is empty is no line
-abbrev pub without_empty_last : List (List ℕ) → List (List ℕ)
-without_empty_last [] = []
-without_empty_last (part ∷ []) = if length part == 0 then [] else part ∷ []
-without_empty_last (part ∷ next ∷ parts) = part ∷ without_empty_last (next ∷ parts)
-
--- the lines of a script
-unfoldable pub script_lines : List ℕ → List (List ℕ)
-script_lines input = map without_cr (without_empty_last (slice_split (λ b. b == newline) input))

@@ -13,8 +13,6 @@ pub mod Seen
 pub mod Settings
 pub mod Spelling
 pub mod Statuses
-pub mod Describes
 pub mod Texts
-pub mod Totals
 pub mod Writing
 pub mod ForProofs

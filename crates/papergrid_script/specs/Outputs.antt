@@ -1,14 +1,14 @@
 -- What the program writes for an input, and how it ends.
-use Rattle.std.specs.Prelude.{ℕ, List, [], ◌∷◌, ◌++◌, Option, Some, None, Result, Ok, Err, codes, decimal, flat_map}
+use Rattle.std.specs.Prelude.{◌≡◌, ℕ, List, [], ◌∷◌, ◌++◌, Option, Some, None, Ok, Err, codes, decimal, flat_map}
 use Rattle.papergrid_values.specs.declared.per_direction.PerDirection.{PerDirection}
 use Rattle.papergrid_values.specs.declared.position.Position.{Position}
 use Rattle.papergrid_layout.specs.Certificates.{Solution}
 use Rattle.papergrid_tracks.specs.declared.sizing.Sizing.{Sizing}
 use Rattle.papergrid_script.specs.declared.answer.RunEnd.{RunEnd}
 use Rattle.papergrid_script.specs.declared.answer.RunEnd.TheVariants.{Done, Refused, BadScript}
-use Rattle.papergrid_script.specs.Grammar.{space, comma}
-use Rattle.papergrid_script.specs.Scripts.{Table, table_of}
-use Rattle.papergrid_script.specs.Estimates.{Estimate, OutOfTable, TooLarge, Sized, estimate_of}
+use Rattle.papergrid_script.specs.Scripts.{IsScript, Table}
+use Rattle.papergrid_script.specs.Spelling.{space, comma}
+use Rattle.papergrid_script.specs.Estimates.{Estimate, OutOfTable, TooLarge, Sized, IsEstimate}
 use Rattle.papergrid_script.specs.Texts.{newline}
 
 -- a space and a number for each
@@ -43,20 +43,9 @@ estimate_text (Sized found) =
     ++ number_line (codes "total") (found.columns.total ∷ found.rows.total ∷ [])
     ++ certificates_text found
 
--- the lines that are written of a script: its first bad line, or the estimate of its table
-abbrev pub script_text : Sizing → Result Table ℕ → List ℕ
-script_text sizing (Err number) = codes "bad script at line " ++ decimal number ++ newline ∷ []
-script_text sizing (Ok table) = estimate_text (estimate_of sizing table)
-
--- what is found, if an estimate has sizes
-abbrev pub estimate_sizes : Estimate → Option (PerDirection Solution)
-estimate_sizes (Sized found) = Some found
-estimate_sizes estimate = None
-
--- of the table of a script
-abbrev pub script_sizes : Sizing → Result Table ℕ → Option (PerDirection Solution)
-script_sizes sizing (Err number) = None
-script_sizes sizing (Ok table) = estimate_sizes (estimate_of sizing table)
+-- the line that is written of a script with a bad line
+abbrev pub bad_line_text : ℕ → List ℕ
+bad_line_text number = codes "bad script at line " ++ decimal number ++ newline ∷ []
 
 -- how a run ends that writes an estimate
 abbrev pub estimate_end : Estimate → RunEnd
@@ -64,19 +53,40 @@ estimate_end (OutOfTable position) = Refused
 estimate_end TooLarge = Refused
 estimate_end (Sized found) = Done
 
--- how a run ends on a script
-abbrev pub script_end : Sizing → Result Table ℕ → RunEnd
-script_end sizing (Err number) = BadScript
-script_end sizing (Ok table) = estimate_end (estimate_of sizing table)
+-- what is found, if an estimate has sizes
+abbrev pub estimate_sizes : Estimate → Option (PerDirection Solution)
+estimate_sizes (Sized found) = Some found
+estimate_sizes estimate = None
 
--- the bytes that are written for an input, where sizes are chosen so
-unfoldable pub output_by : Sizing → List ℕ → List ℕ
-output_by sizing input = script_text sizing (table_of input)
+-- what an input comes to: its first bad line, or the table that it describes with the estimate of that
+pub data Outcome : Type 0 where
+  BadLine : ℕ → Outcome
+  Estimated : Table → Estimate → Outcome
 
--- how its run ends
-unfoldable pub end_by : Sizing → List ℕ → RunEnd
-end_by sizing input = script_end sizing (table_of input)
+-- where sizes are chosen so
+abbrev pub IsOutcome : Sizing → List ℕ → Outcome → Type 0
+IsOutcome sizing input (BadLine number) = IsScript input (Err number)
+IsOutcome sizing input (Estimated table estimate) = IsScript input (Ok table) × IsEstimate sizing table estimate
 
--- what is found of the table of a script, if it is a good one and its table has sizes
-unfoldable pub sizes_by : Sizing → List ℕ → Option (PerDirection Solution)
-sizes_by sizing input = script_sizes sizing (table_of input)
+-- of what the input comes to, this holds
+abbrev pub OfOutcome : Sizing → List ℕ → (Outcome → Type 0) → Type 0
+OfOutcome sizing input holds = (outcome : Outcome) × IsOutcome sizing input outcome × holds outcome
+
+-- the lines that a run writes
+abbrev pub outcome_text : Outcome → List ℕ
+outcome_text (BadLine number) = bad_line_text number
+outcome_text (Estimated table estimate) = estimate_text estimate
+
+-- how it ends
+abbrev pub outcome_end : Outcome → RunEnd
+outcome_end (BadLine number) = BadScript
+outcome_end (Estimated table estimate) = estimate_end estimate
+
+-- the sizes, if there are any
+abbrev pub outcome_sizes : Outcome → Option (PerDirection Solution)
+outcome_sizes (BadLine number) = None
+outcome_sizes (Estimated table estimate) = estimate_sizes estimate
+
+-- the run of an input ends so, and writes this
+abbrev pub IsAnswer : Sizing → List ℕ → RunEnd → List ℕ → Type 0
+IsAnswer sizing input end output = OfOutcome sizing input (λ outcome. (end ≡ outcome_end outcome) × (output ≡ outcome_text outcome))

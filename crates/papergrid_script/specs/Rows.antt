@@ -4,12 +4,12 @@ use Rattle.papergrid_tracks.specs.declared.sizing.Sizing.{Sizing}
 use Rattle.papergrid_tracks.specs.declared.sizing.Sizing.TheVariants.{ByShares, Least}
 use Rattle.papergrid_script.specs.declared.answer.RunEnd.{RunEnd}
 use Rattle.papergrid_script.specs.declared.answer.RunEnd.TheVariants.{Done, Refused, BadScript}
-use Rattle.papergrid_script.specs.Outputs.{output_by, end_by}
+use Rattle.papergrid_script.specs.Outputs.{IsAnswer}
 
--- the output of a script, and its end
+-- the run of a script ends so and writes this, and no other end and no other output are its
 pub record GivesBy (sizing : Sizing) (script output : List ℕ) (end : RunEnd) : Type 0 where
-  pub written : output_by sizing script ≡ output
-  pub ended : end_by sizing script ≡ end
+  pub answer : IsAnswer sizing script end output
+  pub alone : (other : RunEnd) (bytes : List ℕ) → IsAnswer sizing script other bytes → (other ≡ end) × (bytes ≡ output)
 
 -- the scripts that were worked by hand
 pub record WorkedScripts : Type 0 where

@@ -1,7 +1,31 @@
--- What a whole script tells, or its first bad line.
-use Rattle.std.specs.Prelude.{ℕ, ◌+◌, ◌-◌, length, slice_get, slice_set, List, [], ◌∷◌, ◌++◌, Option, Some, None, option_map, option_and_then, Result, Ok, Err}
+-- What a whole script says: a table, or its first bad line.
+use Rattle.std.specs.Prelude.{◌≡◌, ◌⊎◌, ℕ, ◌+◌, ◌<◌, Bool, true, false, List, [], ◌∷◌, map, filter, flat_map, Option, Some, None, Result, Ok, Err, slice_get}
+use Rattle.std.specs.List.{AllZip, filter_map}
 use Rattle.papergrid_config.specs.declared.setting.Setting.{Setting}
-use Rattle.papergrid_script.specs.Grammar.{Said, Nothing, Columns, Set, Row, Cell, line_says, script_lines}
+use Rattle.papergrid_script.specs.ScriptLines.{AreScriptLines}
+use Rattle.papergrid_script.specs.Spelling.{Said, Columns, Set, Row, Cell, Says}
+
+-- ---- bad lines
+
+-- no line before the i-th begins a row
+abbrev pub NoRowBefore : List (List ℕ) → ℕ → Type 0
+NoRowBefore lines i = (j : ℕ) (line : List ℕ) → j < i → slice_get lines j ≡ Some line → ¬ (Says line Row)
+
+-- the line says nothing that a line may say
+abbrev pub IsUnsaid : List ℕ → Type 0
+IsUnsaid line = (s : Said) → ¬ (Says line s)
+
+-- the i-th line is bad, the first being the 0-th. It is unsaid, or adds a cell before the first row
+abbrev pub IsBad : List (List ℕ) → ℕ → Type 0
+IsBad lines i =
+    (line : List ℕ) × (slice_get lines i ≡ Some line) × (IsUnsaid line ⊎ ((text : List ℕ) × Says line (Cell text) × NoRowBefore lines i))
+
+-- the i-th line is bad, and none before it is
+pub record IsFirstBad (lines : List (List ℕ)) (i : ℕ) : Type 0 where
+  pub bad : IsBad lines i
+  pub first : (j : ℕ) → j < i → ¬ (IsBad lines j)
+
+-- ---- the table
 
 -- a column count, the settings in their order, and the texts of the cells of each row
 pub record Table : Type 0 where
@@ -9,34 +33,47 @@ pub record Table : Type 0 where
   pub settings : List Setting
   pub rows : List (List (List ℕ))
 
--- no columns, no settings and no rows
-abbrev pub empty_table : Table
-empty_table = record { columns = 0; settings = []; rows = [] }
+-- the column count that a line says
+abbrev pub columns_said : Said → Option ℕ
+columns_said (Columns n) = Some n
+columns_said s = None
 
--- the rows with a cell more in the last one, if there is one
-abbrev pub onto_last : List (List (List ℕ)) → List ℕ → Option (List (List (List ℕ)))
-onto_last rows text =
-    option_map (λ row. slice_set rows (length rows - 1) (row ++ text ∷ [])) (slice_get rows (length rows - 1))
+-- the setting that a line says
+abbrev pub setting_said : Said → Option Setting
+setting_said (Set setting) = Some setting
+setting_said s = None
 
--- the table after one more line; none where a cell comes before the first row
-abbrev pub table_with_line : Table → Said → Option Table
-table_with_line table Nothing = Some table
-table_with_line table (Columns n) = Some (record table { columns = n })
-table_with_line table (Set setting) = Some (record table { settings = table.settings ++ setting ∷ [] })
-table_with_line table Row = Some (record table { rows = table.rows ++ [] ∷ [] })
-table_with_line table (Cell text) = option_map (λ rows. record table { rows = rows }) (onto_last table.rows text)
+-- whether it begins a row or adds a cell
+abbrev pub is_of_rows : Said → Bool
+is_of_rows Row = true
+is_of_rows (Cell text) = true
+is_of_rows s = false
 
--- on with the table after a line, or the number of the line where there is none
-abbrev pub or_bad : ℕ → Option Table → (Table → Result Table ℕ) → Result Table ℕ
-or_bad number None go_on = Err number
-or_bad number (Some table) go_on = go_on table
+-- the last of some numbers, or the given one where there is none
+abbrev pub last_or : ℕ → List ℕ → ℕ
+last_or n [] = n
+last_or n (m ∷ ms) = last_or m ms
 
--- the table after the lines, of which the first has this number; or the number of the first bad line
-abbrev pub table_after : ℕ → Table → List (List ℕ) → Result Table ℕ
-table_after number table [] = Ok table
-table_after number table (line ∷ lines) =
-    or_bad number (option_and_then (table_with_line table) (line_says line)) (λ next. table_after (number + 1) next lines)
+-- what a script says that has these rows: each row begins, and then come its cells
+abbrev pub rows_said : List (List (List ℕ)) → List Said
+rows_said rows = flat_map (λ texts. Row ∷ map Cell texts) rows
 
--- the table that a script describes, or the number of its first bad line
-unfoldable pub table_of : List ℕ → Result Table ℕ
-table_of input = table_after 1 empty_table (script_lines input)
+-- each line says something. The columns are the last that are said, or 0. The settings are all that are said, in order.
+-- The rows are those of which the script says the beginnings and the cells
+pub record Describes (lines : List (List ℕ)) (table : Table) : Type 0 where
+  pub saids : List Said
+  pub each : AllZip Says lines saids
+  pub columns_last : table.columns ≡ last_or 0 (filter_map columns_said saids)
+  pub settings_all : table.settings ≡ filter_map setting_said saids
+  pub rows_all : rows_said table.rows ≡ filter is_of_rows saids
+
+-- ---- the script
+
+-- the lines describe the table, or this is the number of their first bad one
+abbrev pub IsScriptOf : List (List ℕ) → Result Table ℕ → Type 0
+IsScriptOf lines (Ok table) = Describes lines table
+IsScriptOf lines (Err number) = (i : ℕ) × (number ≡ i + 1) × IsFirstBad lines i
+
+-- the same of the lines of an input
+abbrev pub IsScript : List ℕ → Result Table ℕ → Type 0
+IsScript input script = (lines : List (List ℕ)) × AreScriptLines input lines × IsScriptOf lines script

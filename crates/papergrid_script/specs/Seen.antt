@@ -1,5 +1,5 @@
 -- What clauses see of a script that the program holds.
-use Rattle.std.specs.Prelude.{◌≡◌, ℕ, List, map, Result, Ok, Err}
+use Rattle.std.specs.Prelude.{ℕ, List, map, Result, Ok, Err}
 use Rattle.std.specs.Borrow.{Bor}
 use Rattle.papergrid_script.specs.declared.script.Script.{Script}
 use Rattle.papergrid_script.specs.declared.script.ScriptError.{ScriptError}
@@ -19,8 +19,8 @@ rows_seen rows = map (λ row. row_texts_of row.now) rows
 abbrev pub table_seen : Script → Table
 table_seen script = record { columns = script.columns; settings = map setting_told script.settings.items; rows = rows_seen script.rows.items }
 
--- the table that a script describes, or a bad line; out of memory says nothing
-abbrev pub GivesTable : Result Script ScriptError → Result Table ℕ → Type 0
-GivesTable (Ok script) told = told ≡ Ok (table_seen script)
-GivesTable (Err (script_errors.Bad number)) told = told ≡ Err number
-GivesTable (Err script_errors.Memory) told = Unit {0}
+-- what was read of an input is so: a table, or its first bad line; out of memory says nothing
+abbrev pub GivesScript : Result Script ScriptError → (Result Table ℕ → Type 0) → Type 0
+GivesScript (Ok script) IsSo = IsSo (Ok (table_seen script))
+GivesScript (Err (script_errors.Bad number)) IsSo = IsSo (Err number)
+GivesScript (Err script_errors.Memory) IsSo = Unit {0}

@@ -8,7 +8,7 @@ use Rattle.papergrid_config.specs.declared.setting.Setting.TheVariants.{SetPaddi
 use Rattle.papergrid_script.specs.declared.script_setting.ScriptSetting.{ScriptSetting}
 use Rattle.papergrid_script.specs.declared.script_setting.ScriptSetting.TheVariants.{Padding, ColumnSpan, RowSpan, Border, VerticalLine, HorizontalLine, NoVerticalLine, NoHorizontalLine}
 use Rattle.papergrid_values.specs.Compact.{spaces}
-use Rattle.papergrid_script.specs.Grammar.{horizontal_main, vertical_main}
+use Rattle.papergrid_script.specs.Spelling.{horizontal_main, vertical_main}
 
 -- so many spaces on each side
 abbrev pub spaced_sides : Sides ℕ → Sides Indent

@@ -1,19 +1,36 @@
--- How the lines of a script are spelled: the grammar as a relation, apart from how a line is read.
-use Rattle.std.specs.Prelude.{◌≡◌, ◌≢◌, ◌⊎◌, ℕ, ◌<◌, ◌^◌, true, List, [], ◌∷◌, ◌++◌, Some, length, codes}
+-- How the lines of a script are spelled, and what they say.
+use Rattle.std.specs.Prelude.{◌≡◌, ◌≢◌, ◌⊎◌, ℕ, ◌<◌, ◌^◌, true, IsUtf8, List, [], ◌∷◌, ◌++◌, None, Some, length, codes}
 use Rattle.std.specs.Char.{IsScalar, encode_utf8}
 use Rattle.std.specs.Str.{all_ascii_digits}
 use Rattle.std.specs.Str.Parse.{digits_value}
 use Rattle.papergrid_values.specs.declared.entity.Entity.{Entity}
 use Rattle.papergrid_values.specs.declared.entity.Entity.TheVariants as entities
 use Rattle.papergrid_values.specs.declared.indent.Indent.{Indent}
+use Rattle.papergrid_values.specs.declared.horizontal_line.HorizontalLine.{HorizontalLine}
 use Rattle.papergrid_values.specs.declared.position.Position.{Position}
 use Rattle.papergrid_values.specs.declared.sides.Sides.{Sides}
+use Rattle.papergrid_values.specs.declared.vertical_line.VerticalLine.{VerticalLine}
 use Rattle.papergrid_values.specs.Borders.{frame_with}
 use Rattle.papergrid_config.specs.declared.setting.Setting.{Setting}
 use Rattle.papergrid_config.specs.declared.setting.Setting.TheVariants.{SetPadding, SetColumnSpan, SetRowSpan, SetBorders, InsertVerticalLine, InsertHorizontalLine, RemoveVerticalLine, RemoveHorizontalLine}
 use Rattle.papergrid_values.specs.Compact.{spaces}
-use Rattle.papergrid_script.specs.Grammar.{Said, Nothing, Columns, Set, Row, Cell, space, comma, vertical_main, horizontal_main}
 use Rattle.papergrid_script.specs.Texts.{newline, backslash}
+
+-- what a line of a script says
+pub data Said : Type 0 where
+  Nothing : Said
+  Columns : ℕ → Said
+  Set : Setting → Said
+  Row : Said
+  Cell : List ℕ → Said
+
+-- the byte of a space
+abbrev pub space : ℕ
+space = 32
+
+-- the byte of a comma
+abbrev pub comma : ℕ
+comma = 44
 
 -- one or more digits, of a number that fits 64 bits
 pub record IsNumber (digits : List ℕ) (n : ℕ) : Type 0 where
@@ -51,6 +68,14 @@ pub record IsCharacter (bytes : List ℕ) (c : ℕ) : Type 0 where
   pub scalar : IsScalar c
   pub spelled : bytes ≡ encode_utf8 c
 
+-- lines of one character, whose crossings and ends are not set
+abbrev pub vertical_main : ℕ → VerticalLine ℕ
+vertical_main c = record { main = Some c; intersection = None; top = None; bottom = None }
+
+-- the same of a horizontal line
+abbrev pub horizontal_main : ℕ → HorizontalLine ℕ
+horizontal_main c = record { main = Some c; intersection = None; left = None; right = None }
+
 -- a line that sets something, and what it sets
 pub data IsSetting : List ℕ → Setting → Type 0 where
   Pad : (spelled rest : List ℕ) (entity : Entity) (sides : Sides Indent) → IsEntity spelled entity → AreSides rest sides
@@ -83,3 +108,7 @@ IsLine bytes (Columns n) = (digits : List ℕ) × IsNumber digits n × (bytes �
 IsLine bytes (Set setting) = IsSetting bytes setting
 IsLine bytes Row = bytes ≡ codes "row"
 IsLine bytes (Cell text) = ((bytes ≡ codes "cell") × (text ≡ [])) ⊎ ((spelled : List ℕ) × Means spelled text × (bytes ≡ codes "cell " ++ spelled))
+
+-- a line of text, and what it says
+abbrev pub Says : List ℕ → Said → Type 0
+Says line s = IsUtf8 line × IsLine line s

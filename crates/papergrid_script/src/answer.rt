@@ -2,8 +2,8 @@
 
 ghost use Rattle.std.specs.Prelude.{◌≡◌, IfOk, option_map};
 ghost use Rattle.papergrid_layout.specs.Certificates.{solutions_of};
-ghost use Rattle.papergrid_script.specs.Estimates.{estimate_of};
-ghost use Rattle.papergrid_script.specs.Outputs.{end_by, estimate_end, estimate_text, output_by, sizes_by};
+ghost use Rattle.papergrid_script.specs.Estimates.{Estimate, IsEstimate};
+ghost use Rattle.papergrid_script.specs.Outputs.{IsAnswer, OfOutcome, estimate_end, estimate_text, outcome_sizes};
 ghost use Rattle.papergrid_script.specs.Seen.{table_seen};
 ghost use Rattle.papergrid_script.specs.ForProofs.Sized.{GivesEstimate};
 
@@ -29,10 +29,8 @@ pub enum RunEnd {
 }
 
 /// How the run of an input ends, and what is written.
-#[tactic(auto, unfolding(crate::specs::Outputs::output_by, crate::specs::Outputs::end_by))]
 pub fn answer(alloc: Global, sizing: Sizing, input: &[u8]) -> Result<(RunEnd, Vec<u8>), AllocError>
-    ensures end { IfOk result (λ answer. answer.0 ≡ end_by sizing input.now) }
-    ensures text { IfOk result (λ answer. answer.1.items ≡ output_by sizing input.now) }
+    ensures { IfOk result (λ answer. IsAnswer sizing input.now answer.0 answer.1.items) }
 {
     let texts = Bump::new(alloc);
     match read_script(alloc, &texts, input) {
@@ -48,13 +46,13 @@ pub fn answer(alloc: Global, sizing: Sizing, input: &[u8]) -> Result<(RunEnd, Ve
 /// # Errors
 ///
 /// `AllocError` where a growth is refused.
-#[tactic(auto, unfolding(crate::specs::Outputs::sizes_by))]
 pub fn certify_script(
     alloc: Global,
     sizing: Sizing,
     input: &[u8],
 ) -> Result<Option<PerDirection<Solved>>, AllocError>
-    ensures { IfOk result (λ found. option_map solutions_of found ≡ sizes_by sizing input.now) }
+    ensures { IfOk result (λ found. OfOutcome sizing input.now (λ outcome.
+        option_map solutions_of found ≡ outcome_sizes outcome)) }
 {
     let texts = Bump::new(alloc);
     match read_script(alloc, &texts, input) {
@@ -75,10 +73,9 @@ fn table_answer(
     sizing: Sizing,
     script: Script<'_>,
 ) -> Result<(RunEnd, Vec<u8>), AllocError>
-    ensures end { IfOk result (λ answer. answer.0
-        ≡ estimate_end (estimate_of sizing (table_seen script.entry))) }
-    ensures text { IfOk result (λ answer. answer.1.items
-        ≡ estimate_text (estimate_of sizing (table_seen script.entry))) }
+    ensures { IfOk result (λ answer. (estimate : Estimate)
+        × IsEstimate sizing (table_seen script.entry) estimate
+        × ((answer.0 ≡ estimate_end estimate) × (answer.1.items ≡ estimate_text estimate))) }
 {
     match table_sizes(alloc, sizing, script) {
         Err(LayoutError::Memory(error)) => Err(error),
@@ -96,8 +93,7 @@ fn table_sizes(
     sizing: Sizing,
     script: Script<'_>,
 ) -> LayoutResult<PerDirection<Solved>>
-    ensures { GivesEstimate result (λ answer.
-        answer ≡ estimate_of sizing (table_seen script.entry)) }
+    ensures { GivesEstimate result (IsEstimate sizing (table_seen script.entry)) }
 {
     let config = configuration_of(alloc, script.settings)?;
     let (columns, count) = (script.columns, script.rows.len());

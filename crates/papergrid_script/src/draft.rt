@@ -1,8 +1,8 @@
 //! What the lines of a script have said so far.
 
 ghost use Rattle.std.specs.Prelude.{◌≡◌, IfOk, OnOk, Some};
-ghost use Rattle.papergrid_script.specs.Grammar.{Row, Cell};
-ghost use Rattle.papergrid_script.specs.Scripts.{empty_table, table_with_line};
+ghost use Rattle.papergrid_script.specs.Spelling.{Row, Cell};
+ghost use Rattle.papergrid_script.specs.ForProofs.Read.{empty_table, table_with_line};
 ghost use Rattle.papergrid_script.specs.ForProofs.Drafts.{Takes, table_so_far, with_last};
 ghost use Rattle.papergrid_script.specs.Seen.{rows_seen, table_seen, row_texts_of};
 

@@ -1,9 +1,8 @@
 //! The sizes of a table, its totals with lines, and the cells that certify the sizes.
 
-ghost use Rattle.std.specs.Prelude.{◌≡◌};
 ghost use Rattle.papergrid_config.specs.Grids.{spanned_grid};
 ghost use Rattle.papergrid_walk.specs.Measures.{line_measure};
-ghost use Rattle.papergrid_script.specs.Estimates.{estimate_by};
+ghost use Rattle.papergrid_script.specs.Estimates.{IsEstimateBy};
 ghost use Rattle.papergrid_script.specs.ForProofs.Sized.{GivesEstimate};
 ghost use Rattle.papergrid_text.specs.Records.{TellsRows};
 
@@ -31,8 +30,8 @@ where
     <<R as Records>::Iter as IntoRecords>::Cell: AsStr + Drop,
     requires { R.is_lawful records }
     ensures { GivesEstimate result (λ answer. TellsRows R.tells records (λ cells.
-        (answer ≡ estimate_by sizing (spanned_grid config.now) (line_measure R.Iter.Cell.text)
-        (R.columns records) cells))) }
+        IsEstimateBy (spanned_grid config.now) (line_measure R.Iter.Cell.text)
+        (R.columns records) cells sizing answer)) }
 {
     certify(alloc, records, config, sizing)
 }

@@ -3,8 +3,9 @@
 ghost use Rattle.std.specs.Prelude.{◌≡◌, IfOk, Some};
 ghost use Rattle.papergrid_maps.specs.Spans.{span_along};
 ghost use Rattle.papergrid_values.specs.declared.direction.Direction.TheVariants.{Columns, Rows};
-ghost use Rattle.papergrid_script.specs.Estimates.{estimate_of};
-ghost use Rattle.papergrid_script.specs.Reasons.{estimate_reason, reason_by};
+ghost use Rattle.papergrid_script.specs.Estimates.{Estimate, IsEstimate};
+ghost use Rattle.papergrid_script.specs.Outputs.{OfOutcome};
+ghost use Rattle.papergrid_script.specs.Reasons.{estimate_reason, outcome_reason};
 ghost use Rattle.papergrid_script.specs.Seen.{table_seen};
 
 use crate::estimate::estimate;
@@ -35,9 +36,9 @@ pub enum Reason {
 /// # Errors
 ///
 /// Out of memory.
-#[tactic(auto, unfolding(crate::specs::Reasons::reason_by))]
 pub fn explain(alloc: Global, sizing: Sizing, input: &[u8]) -> Result<Option<Reason>, AllocError>
-    ensures { IfOk result (λ reason. reason ≡ reason_by sizing input.now) }
+    ensures { IfOk result (λ reason. OfOutcome sizing input.now (λ outcome.
+        reason ≡ outcome_reason outcome)) }
 {
     let texts = Bump::new(alloc);
     match read_script(alloc, &texts, input) {
@@ -54,7 +55,8 @@ fn table_reason(
     script: Script<'_>,
 ) -> Result<Option<Reason>, AllocError>
     ensures { let table = table_seen script.entry in
-        IfOk result (λ reason. reason ≡ estimate_reason table (estimate_of sizing table)) }
+        IfOk result (λ reason. (estimate : Estimate) × IsEstimate sizing table estimate
+        × (reason ≡ estimate_reason table estimate)) }
 {
     let config = configuration_of(alloc, script.settings)?;
     let (columns, count) = (script.columns, script.rows.len());

@@ -1,8 +1,8 @@
 //! The text that the program writes.
 
-ghost use Rattle.std.specs.Prelude.{◌≡◌, ◌∷◌, ◌++◌, [], IfOk, OnOk, codes, decimal};
+ghost use Rattle.std.specs.Prelude.{◌≡◌, ◌++◌, IfOk, OnOk, decimal};
 ghost use Rattle.papergrid_script.specs.Estimates.{OutOfTable, Sized, TooLarge};
-ghost use Rattle.papergrid_script.specs.Outputs.{certificate_line, certificates_text, estimate_text, number_line, spaced_positions};
+ghost use Rattle.papergrid_script.specs.Outputs.{bad_line_text, certificate_line, certificates_text, estimate_text, number_line, spaced_positions};
 ghost use Rattle.papergrid_layout.specs.Certificates.{solutions_of};
 ghost use Rattle.papergrid_tracks.specs.Sizings.{positions_of};
 
@@ -122,8 +122,7 @@ pub fn too_large_text(alloc: Global) -> Result<Vec<u8>, AllocError>
 
 /// The line for a bad script.
 pub fn bad_script_text(alloc: Global, number: usize) -> Result<Vec<u8>, AllocError>
-    ensures { IfOk result (λ text. text.items
-        ≡ codes "bad script at line " ++ decimal number ++ 10 ∷ []) }
+    ensures { IfOk result (λ text. text.items ≡ bad_line_text number) }
 {
     let text = format!(in alloc; "bad script at line {number}\n")?;
     Ok(text.into_bytes())

@@ -4,9 +4,9 @@ ghost use Rattle.std.specs.Prelude.{◌≡◌, ◌<◌, All, IfOk, true, length,
 ghost use Rattle.std.specs.Str.{IsValidUpTo};
 ghost use Rattle.papergrid_config.specs.Applied.{is_in_range};
 ghost use Rattle.papergrid_script.specs.declared.script.ScriptError.TheVariants.{Memory};
-ghost use Rattle.papergrid_script.specs.Grammar.{without_cr};
-ghost use Rattle.papergrid_script.specs.Scripts.{table_of};
-ghost use Rattle.papergrid_script.specs.Seen.{GivesTable};
+ghost use Rattle.papergrid_script.specs.ForProofs.Read.{table_of, without_cr};
+ghost use Rattle.papergrid_script.specs.Scripts.{IsScript};
+ghost use Rattle.papergrid_script.specs.Seen.{GivesScript};
 ghost use Rattle.papergrid_script.specs.Settings.{setting_told};
 
 use crate::cut::cut_marked_line;
@@ -52,7 +52,7 @@ pub fn read_script<'a>(
     arena: &'a Bump,
     input: &'a [u8],
 ) -> Result<Script<'a>, ScriptError>
-    ensures told { GivesTable result (table_of input.now) }
+    ensures script { GivesScript result (IsScript input.now) }
     ensures in_range { IfOk result (λ script.
         All (λ setting. is_in_range (setting_told setting) ≡ true) script.settings.items) }
 {
@@ -83,7 +83,7 @@ fn script_of_text<'a>(
     arena: &'a Bump,
     input: &'a str,
 ) -> Result<Script<'a>, ScriptError>
-    ensures { GivesTable result (table_of input.now) }
+    ensures { GivesScript result (λ script. table_of input.now ≡ script) }
 {
     let mut draft = Draft::new(alloc, arena);
     let mut number: usize = 0;

@@ -1,7 +1,8 @@
 //! The lines of a script, one at a time.
 
 ghost use Rattle.std.specs.Prelude.{◌≢◌, IfOk, codes, option_map};
-ghost use Rattle.papergrid_script.specs.Grammar.{Cell, Set, keyword_says, keyword_setting, text_says};
+ghost use Rattle.papergrid_script.specs.Grammar.{keyword_says, keyword_setting, text_says};
+ghost use Rattle.papergrid_script.specs.Spelling.{Cell, Set};
 ghost use Rattle.papergrid_script.specs.ForProofs.Drafts.{Takes};
 ghost use Rattle.papergrid_script.specs.Texts.{unescaped};
 ghost use Rattle.papergrid_script.specs.ForProofs.Escapes.{IsFirstEscape};

@@ -4,7 +4,8 @@ use Rattle.papergrid_values.specs.declared.alignment.AlignmentHorizontal.TheVari
 use Rattle.papergrid_values.specs.declared.alignment.AlignmentVertical.{AlignmentVertical}
 use Rattle.papergrid_values.specs.declared.alignment.AlignmentVertical.TheVariants as vertical
 use Rattle.papergrid_values.specs.declared.sides.Sides.{Sides}
-use Rattle.papergrid_script.specs.Grammar.{◌>>=◌, comma, number_said, pair_at, parted_at, parted_at_last, position_said}
+use Rattle.papergrid_script.specs.Grammar.{◌>>=◌, number_said, pair_at, parted_at, parted_at_last, position_said}
+use Rattle.papergrid_script.specs.Spelling.{comma}
 use Rattle.papergrid_csv.specs.declared.request.Alignment.{Alignment}
 use Rattle.papergrid_csv.specs.declared.request.Alignment.TheVariants.{Auto, Fixed}
 use Rattle.papergrid_csv.specs.declared.request.Span.{Span}

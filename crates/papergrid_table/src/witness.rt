@@ -4,7 +4,7 @@ ghost use Rattle.std.specs.Prelude.{◌≡◌, IfOk, MatchOption, Option, option
 ghost use Rattle.papergrid_values.specs.declared.per_direction.PerDirection.{PerDirection};
 ghost use Rattle.papergrid_tracks.specs.declared.solution.Solved.{Solved};
 ghost use Rattle.papergrid_layout.specs.Certificates.{solutions_of};
-ghost use Rattle.papergrid_script.specs.Outputs.{sizes_by};
+ghost use Rattle.papergrid_script.specs.Outputs.{OfOutcome, outcome_sizes};
 ghost use Rattle.papergrid_csv.specs.Certified.{HasNoSizes, IsCsvCertified};
 ghost use Rattle.papergrid_csv.specs.Pictures.{IsCsvRun};
 ghost use Rattle.papergrid_table.specs.Witness.{witness_lines};
@@ -28,7 +28,8 @@ fn lines_of_text(alloc: Global, request: &Request, input: &[u8]) -> Result<Vec<u
 
 /// The same of the table of a script.
 fn lines_of_script(alloc: Global, sizing: Sizing, script: &[u8]) -> Result<Vec<u8>, AllocError>
-    ensures { IfOk result (λ lines. lines.items ≡ witness_lines (sizes_by sizing script.now)) }
+    ensures { IfOk result (λ lines. OfOutcome sizing script.now (λ outcome.
+        lines.items ≡ witness_lines (outcome_sizes outcome))) }
 {
     witness_lines(alloc, certify_script(alloc, sizing, script)?)
 }

@@ -11,10 +11,11 @@ use Rattle.std.proofs.lemmas.Map.Keys.{any_passes_from_place}
 use Rattle.papergrid_values.specs.declared.position.Position.{Position}
 use Rattle.papergrid_values.specs.declared.horizontal_line.HorizontalLine.{HorizontalLine}
 use Rattle.papergrid_values.specs.declared.vertical_line.VerticalLine.{VerticalLine}
+use Rattle.papergrid_values.specs.declared.direction.Direction.TheVariants.{Columns, Rows}
 use Rattle.papergrid_tables.specs.StoredBorders.{StoredBorders, parts_of_borders}
 use Rattle.papergrid_values.specs.MapKeys.{position_cmp}
 use Rattle.papergrid_tables.specs.LineTests.{ends_at_column, ends_at_row, horizontal_line_at, vertical_line_at}
-use Rattle.papergrid_tables.specs.BorderParts.{HasHorizontal, HasVertical, HasEnd}
+use Rattle.papergrid_tables.specs.BorderParts.{HasEnd, HasLine}
 use Rattle.papergrid_values.proofs.AnyLemmas.{any_index}
 use Rattle.papergrid_tables.proofs.BorderFound.{either, has_end_is, some_value}
 use Rattle.papergrid_values.proofs.KeyLemmas.{exact_position, position_ties, position_equiv}
@@ -64,21 +65,21 @@ itself : (b : Bool) → (b ≡ true) ↔ (b ≡ true)
 itself b = ((λ h. h), (λ h. h))
 
 module _ {T : Type 0} (stored : StoredBorders T) where
-  pub vertical_tested : (c count : ℕ) → IsTrue (vertical_line_at stored c count) ↔ HasVertical (parts_of_borders stored) c count
+  pub vertical_tested : (c count : ℕ) → IsTrue (vertical_line_at stored c count) ↔ HasLine Columns (parts_of_borders stored) c count
   vertical_tested c count =
       either _ _ (itself _) (either _ _ (itself _) (either _ _
       (end_test (λ (line : HorizontalLine T). HasEnd c count line.left line.right) (ends_at_column c count) stored.horizontal_lines (λ line. has_end_is c count line.left line.right) refl)
       (either _ _ (itself _) (either _ _ (position_test (λ p. p.col) c stored.vertical_edges) (position_test (λ p. p.col) c stored.corners)))))
 
-  pub horizontal_tested : (r count : ℕ) → IsTrue (horizontal_line_at stored r count) ↔ HasHorizontal (parts_of_borders stored) r count
+  pub horizontal_tested : (r count : ℕ) → IsTrue (horizontal_line_at stored r count) ↔ HasLine Rows (parts_of_borders stored) r count
   horizontal_tested r count =
       either _ _ (itself _) (either _ _ (itself _) (either _ _
       (end_test (λ (line : VerticalLine T). HasEnd r count line.top line.bottom) (ends_at_row r count) stored.vertical_lines (λ line. has_end_is r count line.top line.bottom) refl)
       (either _ _ (itself _) (either _ _ (position_test (λ p. p.row) r stored.horizontal_edges) (position_test (λ p. p.row) r stored.corners)))))
 
   -- a test of a line is the test of it
-  pub vertical_test : (c count : ℕ) (b : Bool) → (IsTrue b ↔ HasVertical (parts_of_borders stored) c count) → b ≡ vertical_line_at stored c count
+  pub vertical_test : (c count : ℕ) (b : Bool) → (IsTrue b ↔ HasLine Columns (parts_of_borders stored) c count) → b ≡ vertical_line_at stored c count
   vertical_test c count b is = same_answer b _ is (vertical_tested c count)
 
-  pub horizontal_test : (r count : ℕ) (b : Bool) → (IsTrue b ↔ HasHorizontal (parts_of_borders stored) r count) → b ≡ horizontal_line_at stored r count
+  pub horizontal_test : (r count : ℕ) (b : Bool) → (IsTrue b ↔ HasLine Rows (parts_of_borders stored) r count) → b ≡ horizontal_line_at stored r count
   horizontal_test r count b is = same_answer b _ is (horizontal_tested r count)

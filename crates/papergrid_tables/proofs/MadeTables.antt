@@ -13,7 +13,7 @@ use Rattle.papergrid_values.specs.declared.position.Position.{Position}
 use Rattle.papergrid_tables.specs.BorderCalls.{at_position, below, right_of, BorderCall, InsertBorder, RemoveBorder, InsertHorizontalLine, RemoveHorizontalLine, InsertVerticalLine, RemoveVerticalLine, Clear, is_edge_of, is_corner_of, edge_part, corner_part}
 use Rattle.papergrid_tables.specs.StoredBorders.{StoredBorders, HasBorderHistory, parts_of_borders}
 use Rattle.papergrid_values.specs.MapKeys.{position_cmp, position_eq}
-use Rattle.papergrid_tables.specs.Made.{borders_made, named_columns, named_positions, named_rows}
+use Rattle.papergrid_tables.specs.ForProofs.Made.{borders_made, named_columns, named_positions, named_rows}
 use Rattle.papergrid_tables.specs.BorderParts.{BorderParts, parts_after_call, no_parts, parts_from}
 use Rattle.papergrid_values.proofs.TabulatedLemmas.{tabulates}
 use Rattle.papergrid_values.proofs.KeyLemmas.{exact_position, exact_positions, position_equiv, position_ties, position_total}
@@ -145,7 +145,7 @@ module _ {T : Type 0} where
       }
 
   -- tables that have the same parts are the same
-  same_borders : (s t : StoredBorders T) → parts_of_borders s ≡ parts_of_borders t → s ≡ t
+  pub same_borders : (s t : StoredBorders T) → parts_of_borders s ≡ parts_of_borders t → s ≡ t
   same_borders s t same = λ i. record {
     global = (same i).global;
     frame = (same i).frame;

@@ -186,12 +186,7 @@ module _ {T : Type 0} where
   in_frame Columns f n count = at_ends n count (has_left f) (has_right f) (has_vertical f)
   in_frame Rows f n count = at_ends n count (has_top f) (has_bottom f) (has_horizontal f)
 
-  -- there is a vertical line c of count: the global value, the frame, or one of the above
-  abbrev pub HasVertical : BorderParts T → ℕ → ℕ → Type 0
-  HasVertical parts c count =
-      IsSome parts.global ⊎ (in_frame Columns parts.frame c count ≡ true) ⊎ IsSet Columns parts c count
-
-  -- there is a horizontal line r of count, likewise
-  abbrev pub HasHorizontal : BorderParts T → ℕ → ℕ → Type 0
-  HasHorizontal parts r count =
-      IsSome parts.global ⊎ (in_frame Rows parts.frame r count ≡ true) ⊎ IsSet Rows parts r count
+  -- there is a line i of count: the global value, the frame, or one of the above
+  abbrev pub HasLine : Direction → BorderParts T → ℕ → ℕ → Type 0
+  HasLine direction parts i count =
+      IsSome parts.global ⊎ (in_frame direction parts.frame i count ≡ true) ⊎ IsSet direction parts i count

@@ -5,6 +5,7 @@ pub mod CountedLines
 pub mod CountedParts
 pub mod CountedTable
 pub mod Counts
+pub mod Made
 pub mod Maps
 pub mod OffsetEq
 pub mod OverrideScan

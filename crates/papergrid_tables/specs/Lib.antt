@@ -3,7 +3,6 @@ pub mod StoredBorders
 pub mod BorderSame
 pub mod BorderScan
 pub mod LineTests
-pub mod Made
 pub mod Overrides
 pub mod BorderParts
 pub mod ForProofs

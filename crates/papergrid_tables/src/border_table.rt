@@ -11,7 +11,7 @@ ghost use Rattle.papergrid_tables.specs.BorderCalls.{BorderCall, Clear, InsertBo
 ghost use Rattle.papergrid_tables.specs.StoredBorders.{HasBorderHistory, parts_of_borders};
 ghost use Rattle.papergrid_values.specs.MapKeys.{position_eq};
 ghost use Rattle.papergrid_tables.specs.LineTests.{horizontal_line_at, vertical_line_at};
-ghost use Rattle.papergrid_tables.specs.BorderParts.{HasHorizontal, HasNoCellParts, HasVertical, IsSet, found_border, found_horizontal, found_intersection, found_vertical};
+ghost use Rattle.papergrid_tables.specs.BorderParts.{HasNoCellParts, IsSet, found_border, found_horizontal, found_intersection, found_vertical, HasLine};
 
 use crate::border_parts as parts;
 use crate::counted_lines::Lines;
@@ -235,7 +235,7 @@ impl<T> BorderTable<T> {
     /// Whether there is a vertical line at a column, where there are so many columns: a value for
     /// all lines, a part of the frame, or `is_vertical_set`.
     pub fn has_vertical(&self, col: usize, count: usize) -> bool
-        ensures line { IsTrue result ↔ HasVertical (parts_of_borders self.now) col count }
+        ensures line { IsTrue result ↔ HasLine Columns (parts_of_borders self.now) col count }
         ensures test { result ≡ vertical_line_at self.now col count }
     {
         let is_drawn = self.global.is_some() || parts::in_frame_vertical(&self.frame, col, count);
@@ -245,7 +245,7 @@ impl<T> BorderTable<T> {
     /// Whether there is a horizontal line at a row, where there are so many rows: a value for all
     /// lines, a part of the frame, or `is_horizontal_set`.
     pub fn has_horizontal(&self, row: usize, count: usize) -> bool
-        ensures line { IsTrue result ↔ HasHorizontal (parts_of_borders self.now) row count }
+        ensures line { IsTrue result ↔ HasLine Rows (parts_of_borders self.now) row count }
         ensures test { result ≡ horizontal_line_at self.now row count }
     {
         let is_drawn = self.global.is_some() || parts::in_frame_horizontal(&self.frame, row, count);

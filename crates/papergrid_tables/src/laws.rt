@@ -7,18 +7,17 @@ ghost use Rattle.papergrid_tables.specs.StoredBorders as borders;
 ghost use Rattle.papergrid_tables.specs.StoredBorders.{StoredBorders, parts_of_borders};
 ghost use Rattle.papergrid_tables.specs.BorderSame.{HoldTheSameBorders};
 ghost use Rattle.papergrid_values.specs.MapKeys.{position_cmp};
-ghost use Rattle.papergrid_tables.specs.Made.{borders_made};
 ghost use Rattle.papergrid_tables.specs.Overrides as overrides;
 ghost use Rattle.papergrid_tables.specs.Overrides.{StoredOffsets, HoldTheSame, OffsetCall};
 
 use crate::{BorderTable, OffsetTable};
 
-/// The border table that calls make has them as its history, and no other does.
+/// Any calls make a border table that has them as its history, and no other.
 pub fn history_makes_borders<T>()
-    ensures told { (calls : List (BorderCall T)) →
-        borders.HasBorderHistory calls (borders_made calls) }
-    ensures only { (calls : List (BorderCall T)) (stored : StoredBorders T) →
-        borders.HasBorderHistory calls stored → stored ≡ borders_made calls }
+    ensures some { (calls : List (BorderCall T)) →
+        (stored : StoredBorders T) × borders.HasBorderHistory calls stored }
+    ensures only { (calls : List (BorderCall T)) (s t : StoredBorders T) →
+        borders.HasBorderHistory calls s → borders.HasBorderHistory calls t → s ≡ t }
 {}
 
 /// Two border tables are equal exactly where they hold equal values, or none, for each part: for

@@ -1,5 +1,5 @@
 -- What is made of the kept cells is the answer for the problem.
-use Rattle.std.proofs.Common.{◌≡◌, ℕ, ◌+◌, ◌-◌, ◌<◌, ◌≤◌, ◌∙◌, min, Bool, false, true, List, length, get_or, fold, sum, take, map, sym, ap, subst, arith}
+use Rattle.std.proofs.Common.{◌≡◌, ℕ, ◌+◌, ◌-◌, ◌<◌, ◌≤◌, ◌∙◌, min, Bool, true, List, length, get_or, fold, sum, take, map, sym, ap, subst, arith}
 use Rattle.std.specs.Prelude.{All, None, Option, Some, Vec}
 use Rattle.std.proofs.lemmas.List.FromFn.{fill_by_all, get_or-map-range_with_len, length-map-range_with_len}
 use Rattle.std.specs.declared.alloc.Global.{Global}
@@ -13,7 +13,7 @@ use Rattle.papergrid_tracks.specs.Sizings.{AreTooLargeBy, Certifies, IsRefused}
 use Rattle.papergrid_tracks.specs.declared.sizing.Sizing.{Sizing}
 use Rattle.papergrid_tracks.specs.declared.sizing.Sizing.TheVariants.{ByShares, Least}
 use Rattle.papergrid_tracks.specs.Fits.{Fits, IsTooLarge}
-use Rattle.papergrid_tracks.specs.ForProofs.Demands.{AreGathered, StandInOrder, no_demand}
+use Rattle.papergrid_tracks.specs.ForProofs.Demands.{AreGathered, StandInOrder}
 use Rattle.papergrid_tracks.specs.ForProofs.Settled.{IsBegun, line_at}
 use Rattle.papergrid_tracks.specs.Problem.{Problem, problem_of_demands, total_of}
 use Rattle.papergrid_tracks.specs.Ranges.{IsInTable, first_out}

@@ -96,14 +96,9 @@ module _ (demands : List Demand) where
         | inr x ↦ cross.not_disjoint x
       ]
 
-  pub Decides-some_cross : (is_laminar demands ≡ false) ↔ SomeCross demands
-  Decides-some_cross = (
-    SomeCross-from_test,
-    λ cross. elim (cases_Bool (is_laminar demands)) [
-      | inl is ↦ absurd (not_laminar cross (Decides-is_laminar.0 is))
-      | inr not ↦ not
-    ],
-  )
+  -- so either holds
+  pub laminar-or-crossing : IsLaminar demands ⊎ SomeCross demands
+  laminar-or-crossing = elim (cases_Bool (is_laminar demands)) [ inl is ↦ inl (Decides-is_laminar.0 is) | inr not ↦ inr (SomeCross-from_test not) ]
 
   -- and if they are nested or disjoint only where something does not hold, two of them cross
   pub SomeCross-unless : (IsLaminar demands → ⊥) → SomeCross demands

@@ -46,16 +46,6 @@ module _ (line : ℕ → Bool) (n : ℕ) (demands : List Demand) (sizes : List �
             omega arith;
       }
 
-  -- their total is the least, so the critical path certifies them
-  pub IsCertificate-least_sizes : Fits (problem_of_demands line n demands) sizes → IsCertificate (problem_of_demands line n demands) (least_sizes (problem_of_demands line n demands) sizes) (critical_path (problem_of_demands line n demands))
-  IsCertificate-least_sizes fits =
-      let are : AreBoundaries (net_minimum line) n demands lower = AreBoundaries-lower fits in
-      let a : sum (sizes_between n lower) + lower 0 ≡ lower n = sum-sizes_between n lower are.rise in
-      let b : highest_position (net_minimum line) n demands n ≡ lowest_position (net_minimum line) demands n = highest_position-last (net_minimum line) n demands in
-      let c : lowest_position (net_minimum line) demands n ≤ sum (sizes_between n lower) = lowest_position-total line n demands (sizes_between n lower) table (Fits-sizes_between line n demands lower table are) in
-      let d : lower n ≤ highest_position (net_minimum line) n demands n = omega arith in
-      IsCertificate-critical_path line n demands (sizes_between n lower) table (omega arith)
-
   pub same-least_sizes : IsLeast (problem_of_demands line n demands) sizes → least_sizes (problem_of_demands line n demands) sizes ≡ sizes
   same-least_sizes is_least = sym (fill_by_all (λ i. lower (i + 1) - lower i) sizes n 0 is_least.fits.one_each size_at)
     where
@@ -95,15 +85,22 @@ same_boundaries n xs ys many as_many same = same_number_lists xs ys (many ∙ sy
         let f : sum (take k xs) ≡ sum (take k ys) = same k (omega arith) in
         omega arith
 
+-- least sizes are too large exactly where every list that fits is
+pub refused-least : (problem : Problem) (least : List ℕ) → IsLeast problem least → IsTooLarge problem least ↔ ((other : List ℕ) → Fits problem other → IsTooLarge problem other)
+refused-least problem least is = ((λ large other fits. too_large other large (is.least other fits)), (λ each. each least is.fits))
+  where
+    too_large : (other : List ℕ) → IsTooLarge problem least → sum least ≤ sum other → IsTooLarge problem other
+    too_large other large le =
+        let large' : 18446744073709551616 ≤ sum least + all_lines problem.line problem.count = large in
+        let all : 18446744073709551616 ≤ sum other + all_lines problem.line problem.count = omega arith in
+        all
+
 module _ (problem : Problem) (table : All (IsInTable problem.count) problem.demands) where
   pub IsLeast-least_of : IsLeast problem (least_of problem)
   IsLeast-least_of = IsLeast-least_sizes problem.line problem.count problem.demands (sizes_of problem) table (Fits-sizes_of problem table)
 
   pub bound-least_of : (i : ℕ) → i < problem.count → get_or (least_of problem) i 0 ≤ top_minimum problem.demands i
   bound-least_of i l = bound-least_sizes problem.line problem.count problem.demands (sizes_of problem) table i l (bound-sizes_of problem table i l)
-
-  pub IsCertificate-least_of : IsCertificate problem (least_of problem) (critical_path problem)
-  IsCertificate-least_of = IsCertificate-least_sizes problem.line problem.count problem.demands (sizes_of problem) table (Fits-sizes_of problem table)
 
   pub least_of-shares : IsLeast problem (sizes_of problem) → least_of problem ≡ sizes_of problem
   least_of-shares is_least = same-least_sizes problem.line problem.count problem.demands (sizes_of problem) table is_least
@@ -120,15 +117,6 @@ module _ (problem : Problem) (table : All (IsInTable problem.count) problem.dema
       sum-sizes_between problem.count (lowest_position (net_minimum problem.line) problem.demands) are.rise in
       let c : lowest_position (net_minimum problem.line) problem.demands problem.count ≤ sum (least_of problem) = lowest_position-total problem.line problem.count problem.demands (least_of problem) table IsLeast-least_of.fits in
       omega arith
-
-  pub refused-least_of : IsTooLarge problem (least_of problem) ↔ ((other : List ℕ) → Fits problem other → IsTooLarge problem other)
-  refused-least_of = ((λ large other fits. too_large other large (IsLeast-least_of.least other fits)), (λ each. each (least_of problem) IsLeast-least_of.fits))
-    where
-      too_large : (other : List ℕ) → IsTooLarge problem (least_of problem) → sum (least_of problem) ≤ sum other → IsTooLarge problem other
-      too_large other large le =
-          let large' : 18446744073709551616 ≤ sum (least_of problem) + all_lines problem.line problem.count = large in
-          let all : 18446744073709551616 ≤ sum other + all_lines problem.line problem.count = omega arith in
-          all
 
   pub decides-least_total : ((sizes : List ℕ) × Fits problem sizes × (total_of problem sizes < 18446744073709551616)) ↔ (least_total problem + all_lines problem.line problem.count < 18446744073709551616)
   decides-least_total = ((λ some. small some.0 some.2 (lowest_position-total problem.line problem.count problem.demands some.0 table some.1)), (λ l. (least_of problem, IsLeast-least_of.fits, least_small l)))
@@ -199,6 +187,10 @@ module _ (problem : Problem) (table : All (IsInTable problem.count) problem.dema
       let c : sum (least_of problem) ≡ least_total problem = total-least_of in
       omega arith
 
+  -- and the critical path certifies them
+  pub IsCertificate-least : (sizes : List ℕ) → IsLeast problem sizes → IsCertificate problem sizes (critical_path problem)
+  IsCertificate-least sizes least = IsCertificate-critical_path problem.line problem.count problem.demands sizes table (least-total sizes least)
+
   -- ---- the answers, where no cell overflows the table
 
   module _ (inside : first_out problem.count problem.demands ≡ None) where
@@ -220,7 +212,7 @@ module _ (problem : Problem) (table : All (IsInTable problem.count) problem.dema
       exact = refl;
       path = (path_back-is problem table (critical_path problem)).1 refl;
       total = λ sizes least. fits sizes (least-total sizes least);
-      certificate = λ sizes least. IsCertificate-critical_path problem.line problem.count problem.demands sizes table (least-total sizes least);
+      certificate = IsCertificate-least;
     }
       where
         fits : (sizes : List ℕ) → sum sizes ≡ least_total problem → total_of problem sizes < 18446744073709551616
@@ -231,14 +223,17 @@ module _ (problem : Problem) (table : All (IsInTable problem.count) problem.dema
             c
 
     pub AreLeastTooLarge-by_all : ((other : List ℕ) → Fits problem other → IsTooLarge problem other) → AreLeastTooLarge problem
-    AreLeastTooLarge-by_all each = record { none_out = inside; too_large = refused-least_of.1 each; others_too_large = each }
+    AreLeastTooLarge-by_all each = record { table = table; none_out = inside; others_too_large = each }
 
     pub AreLeastTooLarge-least_of : IsTooLarge problem (least_of problem) → AreLeastTooLarge problem
-    AreLeastTooLarge-least_of large = AreLeastTooLarge-by_all (refused-least_of.0 large)
+    AreLeastTooLarge-least_of large = AreLeastTooLarge-by_all ((refused-least problem (least_of problem) IsLeast-least_of).0 large)
 
 -- what is said of least sizes, and of the cells that certify them, leaves no choice
 pub exact-least : (problem : Problem) (sizes : List ℕ) → AreLeastSizes problem sizes → sizes ≡ least_of problem
 exact-least problem sizes are = (furthest_right-is problem are.table sizes).0 are.exact
+
+pub past-least : (problem : Problem) → AreLeastTooLarge problem → IsTooLarge problem (least_of problem)
+past-least problem are = are.others_too_large (least_of problem) (IsLeast-least_of problem are.table).fits
 
 pub exact-critical_path : (problem : Problem) (positions : List Position) → AreCriticalPath problem positions → positions ≡ map position_of (critical_path problem)
 exact-critical_path problem positions are = are.exact ∙ ap (map position_of) ((path_back-is problem are.table are.cells).0 are.path)

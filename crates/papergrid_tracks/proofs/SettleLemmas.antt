@@ -1,6 +1,6 @@
 -- What kept cells come to, once the lines are drawn, the base is written and the longer cells are sorted.
-use Rattle.std.proofs.Common.{◌≡◌, ◌∙◌, ◌+◌, ◌<◌, ◌≤◌, ℕ, Bool, List, ap, ap₂, get_or, length, fold, subst, sum, sym}
-use Rattle.std.specs.Prelude.{All, None, false}
+use Rattle.std.proofs.Common.{◌≡◌, ◌∙◌, ◌+◌, ◌<◌, ℕ, Bool, List, ap, ap₂, length, fold, subst, sum, sym}
+use Rattle.std.specs.Prelude.{All}
 use Rattle.papergrid_tracks.specs.declared.demand.Demand.{Demand}
 use Rattle.papergrid_tracks.specs.declared.demands.Demands.{Demands}
 use Rattle.papergrid_tracks.specs.Answers.{AreSizesTooLarge}

@@ -5,7 +5,7 @@ use Rattle.papergrid_tracks.specs.declared.demand.Demand.{Demand}
 use Rattle.papergrid_tracks.specs.Problem.{Problem, total_of}
 use Rattle.papergrid_tracks.specs.Ranges.{IsInTable, first_out, position_of}
 use Rattle.papergrid_tracks.specs.Fits.{Fits, IsCertificate, IsLeast, IsTooLarge, top_minimum}
-use Rattle.papergrid_tracks.specs.Least.{AreFurthestRight, least_of}
+use Rattle.papergrid_tracks.specs.Least.{AreFurthestRight}
 use Rattle.papergrid_tracks.specs.CriticalPath.{IsPathBack}
 
 module _ (problem : Problem) where
@@ -28,8 +28,8 @@ module _ (problem : Problem) where
     pub total : (sizes : List ℕ) → IsLeast problem sizes → total_of problem sizes < 2 ^ 64
     pub certificate : (sizes : List ℕ) → IsLeast problem sizes → IsCertificate problem sizes cells
 
-  -- no cell overflows the table, and the least sizes are too large, as every list that fits is
+  -- no cell overflows the table, and every list that fits is too large, the least sizes too
   pub record AreLeastTooLarge : Type 0 where
+    pub table : All (IsInTable problem.count) problem.demands
     pub none_out : first_out problem.count problem.demands ≡ None
-    pub too_large : IsTooLarge problem (least_of problem)
     pub others_too_large : (other : List ℕ) → Fits problem other → IsTooLarge problem other

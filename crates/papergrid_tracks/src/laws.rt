@@ -1,21 +1,20 @@
 //! Laws of the definitions, each the contract of a function that does nothing.
 
-ghost use Rattle.std.specs.Prelude.{ℕ, ◌≡◌, ◌<◌, ◌≤◌, ◌↔◌, All, IsTrue, List, false, slice_index, true, length, min, reverse, sum, ◌+◌, ◌^◌};
+ghost use Rattle.std.specs.Prelude.{ℕ, ◌≡◌, ◌<◌, ◌≤◌, ◌↔◌, ◌⊎◌, All, List, slice_index, true, length, min, reverse, sum, ◌+◌, ◌^◌};
 ghost use Rattle.papergrid_tracks.specs.declared.candidate.Candidate.{Candidate};
 ghost use Rattle.papergrid_tracks.specs.declared.checked.Checked.{Checked};
 ghost use Rattle.papergrid_tracks.specs.declared.demand.Demand.{Demand};
 ghost use Rattle.papergrid_tracks.specs.declared.error.LayoutError.{LayoutError};
 ghost use Rattle.papergrid_tracks.specs.Certificates.{certificate_cells_of};
 ghost use Rattle.papergrid_tracks.specs.Fits.{Fits, IsCertificate, IsLeast, top_minimum, IsTooLarge};
-ghost use Rattle.papergrid_tracks.specs.Laminar.{is_laminar};
 ghost use Rattle.papergrid_tracks.specs.Problem.{Problem, total_of};
 ghost use Rattle.papergrid_tracks.specs.Ranges.{IsInTable, IsLaminar, SomeCross};
 ghost use Rattle.papergrid_tracks.specs.Sizes.{sizes_of};
 ghost use Rattle.papergrid_values.specs.Lines.{all_lines};
 ghost use Rattle.papergrid_tracks.specs.LowestPositions.{lowest_position, least_total};
 ghost use Rattle.papergrid_tracks.specs.TrackBoundaries.{AreBoundaries, net_minimum, boundaries_of, sizes_between};
-ghost use Rattle.papergrid_tracks.specs.Least.{AreFurthestRight, highest_position, least_of, least_sizes};
-ghost use Rattle.papergrid_tracks.specs.CriticalPath.{IsPathBack, critical_path};
+ghost use Rattle.papergrid_tracks.specs.Least.{AreFurthestRight};
+ghost use Rattle.papergrid_tracks.specs.CriticalPath.{IsPathBack};
 
 pub use crate::worked::{crossing_worked, worked_rows};
 use crate::{Candidate, Checked, Demand, LayoutError};
@@ -56,13 +55,11 @@ pub fn sizes_by_minimums()
         IsCertificate problem (sizes_of problem) (certificate_cells_of problem) }
 {}
 
-/// Whether any two longer ranges are nested or disjoint can be computed; where they are not, two of
-/// them are neither.
-pub fn laminar_is_computed()
-    ensures laminar { (demands : List Demand) →
-        IsTrue (is_laminar demands) ↔ IsLaminar demands }
-    ensures crossing { (demands : List Demand) →
-        (is_laminar demands ≡ false) ↔ SomeCross demands }
+/// Any two longer ranges are nested or disjoint, or two of them are neither; and never both.
+pub fn laminar_or_crossing()
+    ensures either { (demands : List Demand) → IsLaminar demands ⊎ SomeCross demands }
+    ensures never_both { (demands : List Demand) →
+        IsLaminar demands → SomeCross demands → ⊥ }
 {}
 
 /// Sizes fit exactly where their sums are boundaries.
@@ -101,57 +98,47 @@ pub fn lowest_boundaries()
         IsLeast problem (sizes_between problem.count boundary) }
 {}
 
-/// The highest positions are boundaries from 0 to the least total, and no boundaries that end there
-/// are past them.
+/// There are boundaries from 0 to the least total past which no boundaries are that end there: at
+/// each track the highest ones.
 pub fn highest_boundaries()
-    ensures boundaries { (asks : Demand → ℕ) (n : ℕ) (demands : List Demand) →
-        All (IsInTable n) demands → AreBoundaries asks n demands (highest_position asks n demands) }
-    ensures first { (asks : Demand → ℕ) (n : ℕ) (demands : List Demand) →
-        All (IsInTable n) demands → highest_position asks n demands 0 ≡ 0 }
-    ensures last { (asks : Demand → ℕ) (n : ℕ) (demands : List Demand) →
-        highest_position asks n demands n ≡ lowest_position asks demands n }
-    ensures above { (asks : Demand → ℕ) (n : ℕ) (demands : List Demand) (boundary : ℕ → ℕ) →
-        All (IsInTable n) demands → AreBoundaries asks n demands boundary →
+    ensures { (asks : Demand → ℕ) (n : ℕ) (demands : List Demand) →
+        All (IsInTable n) demands →
+        (highest : ℕ → ℕ) × AreBoundaries asks n demands highest × (highest 0 ≡ 0)
+        × (highest n ≡ lowest_position asks demands n)
+        × ((boundary : ℕ → ℕ) → AreBoundaries asks n demands boundary →
         boundary n ≤ lowest_position asks demands n →
-        (i : ℕ) → i ≤ n → boundary i ≤ highest_position asks n demands i }
+        (i : ℕ) → i ≤ n → boundary i ≤ highest i) }
 {}
 
-/// From any sizes that fit, least ones, which are the same where those are least.
+/// From any sizes that fit there are least ones. They are the same where those are least, and none
+/// of them is above the greatest minimum size over its track where none of those is.
 pub fn least_from_any()
-    ensures least { (problem : Problem) (sizes : List ℕ) →
+    ensures { (problem : Problem) (sizes : List ℕ) →
         All (IsInTable problem.count) problem.demands → Fits problem sizes →
-        IsLeast problem (least_sizes problem sizes) }
-    ensures certified { (problem : Problem) (sizes : List ℕ) →
-        All (IsInTable problem.count) problem.demands → Fits problem sizes →
-        IsCertificate problem (least_sizes problem sizes) (critical_path problem) }
-    ensures bound { (problem : Problem) (sizes : List ℕ) →
-        All (IsInTable problem.count) problem.demands → (i : ℕ) → i < problem.count →
-        slice_index sizes i ≤ top_minimum problem.demands i →
-        slice_index (least_sizes problem sizes) i ≤ top_minimum problem.demands i }
-    ensures same { (problem : Problem) (sizes : List ℕ) →
-        All (IsInTable problem.count) problem.demands → IsLeast problem sizes →
-        least_sizes problem sizes ≡ sizes }
+        (least : List ℕ) × IsLeast problem least × (IsLeast problem sizes → least ≡ sizes)
+        × ((i : ℕ) → i < problem.count → slice_index sizes i ≤ top_minimum problem.demands i →
+        slice_index least i ≤ top_minimum problem.demands i) }
 {}
 
-/// The sizes by shares, made least, are the least sizes whose boundaries are nowhere past those by shares and furthest
-/// to the right; and they are those by shares wherever these are least.
+/// There are least sizes whose boundaries are nowhere past those by shares and furthest to the right,
+/// and no others. None of them is above the greatest minimum size over its track. They are those by
+/// shares wherever these are least, and so where ranges are nested or disjoint.
 pub fn least_by_shares()
-    ensures least { (problem : Problem) → All (IsInTable problem.count) problem.demands →
-        IsLeast problem (least_of problem) }
-    ensures total { (problem : Problem) → All (IsInTable problem.count) problem.demands →
-        sum (least_of problem) ≡ least_total problem }
-    ensures bound { (problem : Problem) → All (IsInTable problem.count) problem.demands →
-        (i : ℕ) → i < problem.count →
-        slice_index (least_of problem) i ≤ top_minimum problem.demands i }
-    ensures certified { (problem : Problem) → All (IsInTable problem.count) problem.demands →
-        IsCertificate problem (least_of problem) (critical_path problem) }
-    ensures furthest_right { (problem : Problem) (sizes : List ℕ) →
+    ensures some { (problem : Problem) → All (IsInTable problem.count) problem.demands →
+        (sizes : List ℕ) × AreFurthestRight problem sizes }
+    ensures only { (problem : Problem) (sizes other : List ℕ) →
         All (IsInTable problem.count) problem.demands →
-        AreFurthestRight problem sizes ↔ (sizes ≡ least_of problem) }
+        AreFurthestRight problem sizes → AreFurthestRight problem other → sizes ≡ other }
+    ensures total { (problem : Problem) (sizes : List ℕ) →
+        All (IsInTable problem.count) problem.demands →
+        AreFurthestRight problem sizes → sum sizes ≡ least_total problem }
+    ensures bound { (problem : Problem) (sizes : List ℕ) →
+        All (IsInTable problem.count) problem.demands → AreFurthestRight problem sizes →
+        (i : ℕ) → i < problem.count → slice_index sizes i ≤ top_minimum problem.demands i }
     ensures same { (problem : Problem) → All (IsInTable problem.count) problem.demands →
-        IsLeast problem (sizes_of problem) → least_of problem ≡ sizes_of problem }
+        IsLeast problem (sizes_of problem) → AreFurthestRight problem (sizes_of problem) }
     ensures laminar { (problem : Problem) → All (IsInTable problem.count) problem.demands →
-        IsLaminar problem.demands → least_of problem ≡ sizes_of problem }
+        IsLaminar problem.demands → AreFurthestRight problem (sizes_of problem) }
 {}
 
 /// Some sizes fit that have a total in `usize` exactly where the least total and all lines are in it.
@@ -159,14 +146,22 @@ pub fn least_total_decides()
     ensures decides { (problem : Problem) → All (IsInTable problem.count) problem.demands →
         ((sizes : List ℕ) × Fits problem sizes × (total_of problem sizes < 2 ^ 64)) ↔
         (least_total problem + all_lines problem.line problem.count < 2 ^ 64) }
-    ensures too_large { (problem : Problem) → All (IsInTable problem.count) problem.demands →
-        IsTooLarge problem (least_of problem) ↔
+    ensures too_large { (problem : Problem) (least : List ℕ) →
+        All (IsInTable problem.count) problem.demands → IsLeast problem least →
+        IsTooLarge problem least ↔
         ((other : List ℕ) → Fits problem other → IsTooLarge problem other) }
 {}
 
-/// The cells that certify the least total are those of the critical path.
+/// There is a critical path and no other, and its cells certify whatever sizes are least.
 pub fn one_critical_path()
-    ensures { (problem : Problem) (cells : List Demand) →
+    ensures some { (problem : Problem) → All (IsInTable problem.count) problem.demands →
+        (cells : List Demand) × IsPathBack problem problem.count (reverse cells) }
+    ensures only { (problem : Problem) (cells other : List Demand) →
         All (IsInTable problem.count) problem.demands →
-        IsPathBack problem problem.count (reverse cells) ↔ (cells ≡ critical_path problem) }
+        IsPathBack problem problem.count (reverse cells) →
+        IsPathBack problem problem.count (reverse other) → cells ≡ other }
+    ensures certifies { (problem : Problem) (cells : List Demand) (sizes : List ℕ) →
+        All (IsInTable problem.count) problem.demands →
+        IsPathBack problem problem.count (reverse cells) → IsLeast problem sizes →
+        IsCertificate problem sizes cells }
 {}

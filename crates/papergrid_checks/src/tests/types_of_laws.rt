@@ -5,7 +5,7 @@ use papergrid::records::IterRecords;
 
 #[test]
 fn laws_of_layouts() {
-    facade::reasons_by_runs();
+    facade::reasons_by_ends();
     facade::equal_clones();
     facade::equal_where_same();
     facade::one_picture_for_grids::<&'static str, IterRecords<&'static Vec<Vec<&'static str>>>>();

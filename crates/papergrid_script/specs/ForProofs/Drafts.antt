@@ -1,10 +1,11 @@
 -- The table of the lines that were read so far.
 use Rattle.std.specs.Prelude.{◌≡◌, ◌-◌, ℕ, Bool, List, length, map, slice_set, MatchBool, Option, Some, None, option_and_then}
 use Rattle.papergrid_script.specs.declared.draft.Draft.{Draft}
-use Rattle.papergrid_script.specs.Grammar.{Said}
-use Rattle.papergrid_script.specs.Scripts.{Table, table_with_line}
+use Rattle.papergrid_script.specs.ForProofs.Read.{table_with_line}
+use Rattle.papergrid_script.specs.Scripts.{Table}
 use Rattle.papergrid_script.specs.Seen.{row_texts_of, rows_seen}
 use Rattle.papergrid_script.specs.Settings.{setting_told}
+use Rattle.papergrid_script.specs.Spelling.{Said}
 
 -- the rows with these cells in the last one, if there is one
 abbrev pub with_last : List (List (List ℕ)) → List (List ℕ) → List (List (List ℕ))

@@ -33,4 +33,4 @@ returns g c =
     let ran = subst (λ rows. WritesPicture g.W.Sink.contents g.W.Sink.has_failed g.W.Sink.has_stalled (IsDrawingWith c.args.script.columns (rows_seen rows) c.args.sizing c.in_ok-config.config)
     (IsFaultWith c.args.script.columns (rows_seen rows) c.args.sizing c.in_ok-config.config) lined c.args.writer.now c.draw_rows.new.writer c.draw_rows.result) c.deref.ensures.value c.draw_rows.ensures in
     run-refused g.W.Sink.contents g.W.Sink.has_failed g.W.Sink.has_stalled c.args.sizing (table_seen c.args.script) c.in_ok-config.config told c.args.writer.now c.draw_rows.new.writer
-    c.say.new.writer c.in-Err.error c.in_ok-text-in-Err.text.items c.say.result c.in_ok-text-in-Err.ensures.ok.0 (rw c.in-Err.is at ran) c.in_ok-text-in-Err.ensures.ok.1 c.say.ensures
+    c.say.new.writer c.in-Err.error c.in_ok-text-in-Err.text.items c.say.result c.in_ok-text-in-Err.ensures.ok.0 (rw c.in-Err.is at ran) c.in_ok-text-in-Err.ensures.ok.1 c.say.ensures.written

@@ -7,4 +7,4 @@ returns c sizing input =
     (λ columns texts settings d e a b. (c.one_picture.ensures.pictures columns texts sizing settings d e a b).1)
     (λ columns texts settings. c.one_picture.ensures.drawn columns texts sizing settings)
     (λ columns texts settings. c.one_picture.ensures.refused columns texts sizing settings)
-    input
+    input (c.one_script.ensures.only input)

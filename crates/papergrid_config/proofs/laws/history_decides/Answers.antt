@@ -1,8 +1,4 @@
-use Rattle.std.specs.List.{flat_map}
-use Rattle.papergrid_tables.proofs.MadeTables.{border_history}
-use Rattle.papergrid_maps.proofs.MadeTables.{span_history}
 use Rattle.papergrid_maps.proofs.StoredMapLemmas.{stored_effective}
-use Rattle.papergrid_config.specs.Parts.{character_calls, span_calls}
 use Rattle.papergrid_config.proofs.laws.history_decides.Goals as goal
 
 pub returns : goal.returns
@@ -16,6 +12,4 @@ returns c settings config told = record {
   alignment_vertical = stored_effective _ _ _ told.alignment_vertical;
   justification = stored_effective _ _ _ told.justification;
   justification_color = stored_effective _ _ _ told.justification_color;
-  characters = border_history (flat_map character_calls settings) config.characters told.characters;
-  spans = span_history (flat_map span_calls settings) config.spans told.spans;
 }

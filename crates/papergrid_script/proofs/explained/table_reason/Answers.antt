@@ -1,15 +1,15 @@
-use Rattle.std.proofs.Common.{◌≡◌, ap, ◌∙◌, sym}
+use Rattle.std.proofs.Common.{◌≡◌, ap, refl, ◌∙◌, sym}
 use Rattle.std.specs.Prelude.{Some, flat_map, map}
 use Rattle.std.proofs.lemmas.List.{length-map}
 use Rattle.papergrid_values.specs.declared.direction.Direction.TheVariants.{Columns, Rows}
-use Rattle.papergrid_maps.specs.Spans.{span_along}
-use Rattle.papergrid_maps.proofs.MadeTables.{span_history}
 use Rattle.papergrid_config.specs.Parts.{span_calls}
-use Rattle.papergrid_script.specs.Estimates.{OutOfTable}
+use Rattle.papergrid_layout.specs.Certificates.{solutions_of}
+use Rattle.papergrid_script.specs.Estimates.{OutOfTable, Sized, TooLarge}
 use Rattle.papergrid_script.specs.Reasons.{estimate_reason}
 use Rattle.papergrid_script.specs.Seen.{table_seen, row_texts_of}
 use Rattle.papergrid_script.specs.Settings.{setting_told}
 use Rattle.papergrid_script.specs.declared.explained.Reason.TheVariants as reason
+use Rattle.papergrid_script.proofs.GridLemmas.{span-effective}
 use Rattle.papergrid_script.proofs.SeenLemmas.{gives_seen}
 use Rattle.papergrid_script.proofs.explained.table_reason.Goals as goal
 
@@ -17,7 +17,7 @@ pub returns-in-Ok : goal.returns-in-Ok
 returns-in-Ok c =
     let gave = gives_seen (λ cell. cell.now) c.args.script c.in_ok-config.config _ _ c.args.sizing c.estimate.result c.in_ok-config.ensures.told (ap (λ r. r.iter.items) c.new-records.ensures) (ap (λ r. r.count_columns) c.new-records.ensures) c.estimate.ensures in
     let is = rw c.in-Ok.is at gave in
-    ap (estimate_reason (table_seen c.args.script)) is
+    (Sized (solutions_of c.in-Ok.field-0), is, refl)
 
 pub returns-in-Err-OutOfTable : goal.returns-in-Err-OutOfTable
 returns-in-Err-OutOfTable c =
@@ -25,16 +25,16 @@ returns-in-Err-OutOfTable c =
     let position = c.in-Err-OutOfTable.position in
     let gave = gives_seen (λ cell. cell.now) script c.in_ok-config.config _ _ c.args.sizing c.estimate.result c.in_ok-config.ensures.told (ap (λ r. r.iter.items) c.new-records.ensures) (ap (λ r. r.count_columns) c.new-records.ensures) c.estimate.ensures in
     let is = rw (c.in-Err-OutOfTable.is, c.in-Err-OutOfTable.field-0-is) at gave in
-    let spans = span_history (flat_map span_calls (map setting_told script.settings.items)) c.in_ok-config.config.spans c.in_ok-config.ensures.told.spans in
-    let down = c.spans_at-spans.ensures.rows ∙ ap (λ s. span_along s Rows position) spans in
-    let across = c.spans_at-spans.ensures.columns ∙ ap (λ s. span_along s Columns position) spans in
+    let span = span-effective (flat_map span_calls (map setting_told script.settings.items)) c.in_ok-config.config.spans c.in_ok-config.ensures.told.spans in
+    let down = c.spans_at-spans.ensures.rows ∙ span Rows position in
+    let across = c.spans_at-spans.ensures.columns ∙ span Columns position in
     let rows = c.len-count.ensures ∙ script.rows.ok.0 ∙ sym (length-map script.rows.items (λ row. row_texts_of row.now)) in
     let told : Some (reason.OutOfTable position c.spans_at-spans.result (c.len-count.result, script.columns)) ≡ estimate_reason (table_seen script) (OutOfTable position) =
     λ i. Some (reason.OutOfTable position (down i, across i) (rows i, script.columns)) in
-    told ∙ ap (estimate_reason (table_seen script)) is
+    (OutOfTable position, is, told)
 
 pub returns-in-Err-TooLarge : goal.returns-in-Err-TooLarge
 returns-in-Err-TooLarge c =
     let gave = gives_seen (λ cell. cell.now) c.args.script c.in_ok-config.config _ _ c.args.sizing c.estimate.result c.in_ok-config.ensures.told (ap (λ r. r.iter.items) c.new-records.ensures) (ap (λ r. r.count_columns) c.new-records.ensures) c.estimate.ensures in
     let is = rw (c.in-Err-TooLarge.is, c.in-Err-TooLarge.field-0-is) at gave in
-    ap (estimate_reason (table_seen c.args.script)) is
+    (TooLarge, is, refl)

@@ -2,8 +2,8 @@ use Rattle.std.proofs.Common.{◌≡◌, ◌+◌, length, map}
 use Rattle.std.specs.Prelude.{IfSome, IsUtf8}
 use Rattle.papergrid_text.specs.LinesLeft.{lines_of_rest}
 use Rattle.papergrid_text.specs.Text.{split_lines}
-use Rattle.papergrid_script.specs.Grammar.{without_cr}
-use Rattle.papergrid_script.specs.Scripts.{empty_table, table_after}
+use Rattle.papergrid_script.specs.ForProofs.Read.{without_cr}
+use Rattle.papergrid_script.specs.ForProofs.Read.{empty_table, table_after}
 use Rattle.papergrid_script.specs.ForProofs.Drafts.{table_so_far}
 use Rattle.papergrid_script.proofs.script.script_of_text.Given as goal
 

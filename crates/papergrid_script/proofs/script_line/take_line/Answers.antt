@@ -1,5 +1,6 @@
 use Rattle.std.proofs.Common.{◌≡◌, ◌++◌, ℕ, List, Option, IfOk, codes, option_map, refl, sym, ap, ◌∙◌, subst}
-use Rattle.papergrid_script.specs.Grammar.{Cell, Said, keyword_says, text_says}
+use Rattle.papergrid_script.specs.Spelling.{Cell, Said}
+use Rattle.papergrid_script.specs.Grammar.{keyword_says, text_says}
 use Rattle.papergrid_script.specs.ForProofs.Drafts.{Takes}
 use Rattle.papergrid_script.specs.Texts.{unescaped}
 use Rattle.papergrid_script.proofs.SpellLemmas.{parted_after}

@@ -5,9 +5,10 @@ use Rattle.std.specs.Str.{chars, is_utf8}
 use Rattle.unicode_width.specs.Width.{str_width, step, past_emoji}
 use Rattle.papergrid_script.specs.Texts.{unescaped}
 use Rattle.papergrid_text.specs.Text.{character_of}
-use Rattle.papergrid_script.specs.Grammar.{number_said, position_said, position_and_count, entity_said, sides_of, padding_of, number_and_character, keyword_setting, keyword_says, text_says, line_says, script_lines}
-use Rattle.papergrid_script.specs.Scripts.{table_of}
-use Rattle.papergrid_script.specs.Estimates.{estimate_by}
+use Rattle.papergrid_script.specs.Grammar.{number_said, position_said, position_and_count, entity_said, sides_of, padding_of, number_and_character, keyword_setting, keyword_says, text_says, line_says}
+use Rattle.papergrid_script.specs.ForProofs.Read.{script_lines}
+use Rattle.papergrid_script.specs.ForProofs.Read.{table_of}
+use Rattle.papergrid_script.specs.ForProofs.Estimated.{estimate_by}
 use Rattle.papergrid_script.proofs.ListedLemmas.{worked}
 use Rattle.papergrid_script.proofs.worked.worked_rows.Goals as goal
 

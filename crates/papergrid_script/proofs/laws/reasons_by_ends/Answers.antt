@@ -1,5 +1,5 @@
 use Rattle.papergrid_script.proofs.ReasonLemmas.{bad_line_where_bad, none_where_done, refusal_where_refused, written_as}
-use Rattle.papergrid_script.proofs.laws.reasons_by_runs.Goals as goal
+use Rattle.papergrid_script.proofs.laws.reasons_by_ends.Goals as goal
 
 pub returns : goal.returns
 returns c = record {
