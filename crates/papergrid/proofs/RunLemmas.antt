@@ -106,9 +106,9 @@ module _ {R W : Type 0} (remaining : R → Option (List ℕ)) (read_failed : R �
   broke-unseen run_faults.Memory is = record { reader_works = is.reader_works; writer_works = is.writer_works; writer_moves = is.writer_moves; kept = elim is.kept [ inl same ↦ inl (refl, same.1) | inr whole ↦ inr whole ] }
   broke-unseen run_faults.Write is = record { reader_works = is.reader_works; write = is.write; kept = is.kept }
 
-  pub runs-unseen : {IsOutput : RunEnd → List ℕ → Type 0} {MayBegin : List ℕ → Type 0} (result : Result RunEnd RunFault) →
-      Runs remaining read_failed contents has_failed has_stalled reader_old reader_new writer_old writer_new before input IsOutput MayBegin result →
-      Runs remaining read_failed contents has_failed has_stalled reader_old reader_new writer_old writer_new input input IsOutput MayBegin result
+  pub runs-unseen : {IsOutput : RunEnd → List ℕ → Type 0} (result : Result RunEnd RunFault) →
+      Runs remaining read_failed contents has_failed has_stalled reader_old reader_new writer_old writer_new before input IsOutput result →
+      Runs remaining read_failed contents has_failed has_stalled reader_old reader_new writer_old writer_new input input IsOutput result
   runs-unseen (Ok end) runs = record {
     written = runs.written;
     ran = record { kept = runs.ran.kept; reader_works = runs.ran.reader_works; writer_works = runs.ran.writer_works; writer_moves = runs.ran.writer_moves };

@@ -1,7 +1,6 @@
 //! Tables drawn: of records by a list of settings, and of a script.
 
 ghost use Rattle.std.specs.Prelude.{◌≡◌, ◌≢◌, ◌↔◌, ⊤, All, IfErr, IfOk, false, true};
-ghost use Rattle.papergrid_script.specs.declared.answer.RunEnd.{RunEnd};
 ghost use Rattle.papergrid_values.specs.declared.position.Position.{Position};
 ghost use Rattle.papergrid_text.specs.HeldRows.{column_count};
 ghost use Rattle.papergrid_config.specs.Applied.{is_in_range};
@@ -117,8 +116,7 @@ pub fn run_table<S: Source, W: Sink>(
     // nor the writer failed. Or which fault comes, and what it leaves of them and of the vector.
     ensures { Runs S.remaining S.has_failed W.contents W.has_failed W.has_stalled
         reader.old reader.new writer.old writer.new input.old input.new
-        (IsPictureRun sizing input.new.items)
-        (λ output. (end : RunEnd) × IsPictureRun sizing input.new.items end output) result }
+        (IsPictureRun sizing input.new.items) result }
 {
     *input = read_all(alloc, reader)?;
     draw_script(alloc, sizing, input.as_slice(), writer)

@@ -6,7 +6,6 @@ ghost use Rattle.papergrid_tracks.specs.declared.sizing.Sizing.TheVariants.{BySh
 ghost use Rattle.papergrid_script.specs.Outputs.{IsAnswer};
 ghost use Rattle.papergrid_script.specs.Runs.{Runs};
 ghost use Rattle.papergrid_script.specs.Writing.{WritesOutput};
-ghost use Rattle.papergrid_script.specs.declared.answer.RunEnd.{RunEnd};
 ghost use Rattle.papergrid_script.specs.declared.reading.RunFault.TheVariants.{Memory};
 
 use papergrid_layout::Sizing;
@@ -39,8 +38,7 @@ pub fn run<S: Source, W: Sink>(
     // was read to its end, and neither the reader nor the writer failed. Or which fault comes, and what it leaves of them.
     ensures run { (input : Vec ℕ Global) × Runs S.remaining S.has_failed W.contents W.has_failed
         W.has_stalled reader.old reader.new writer.old writer.new input input
-        (IsAnswer ByShares input.items)
-        (λ output. (end : RunEnd) × IsAnswer ByShares input.items end output) result }
+        (IsAnswer ByShares input.items) result }
     ensures memory_nothing { IsErrOf result Memory → writer.new ≡ writer.old }
 {
     let mut input = Vec::new(alloc);
@@ -70,8 +68,7 @@ pub fn run_keeping<S: Source, W: Sink>(
     // which fault comes, and what it leaves of them and of the vector.
     ensures run { Runs S.remaining S.has_failed W.contents W.has_failed W.has_stalled
         reader.old reader.new writer.old writer.new input.old input.new
-        (IsAnswer sizing input.new.items)
-        (λ output. (end : RunEnd) × IsAnswer sizing input.new.items end output) result }
+        (IsAnswer sizing input.new.items) result }
     ensures memory_nothing { IsErrOf result Memory → writer.new ≡ writer.old }
 {
     *input = read_all(alloc, reader)?;

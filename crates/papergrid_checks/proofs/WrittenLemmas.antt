@@ -16,14 +16,14 @@ module _ {R W E : Type 0} {remaining : R → Option (List ℕ)} {read_failed : R
     {reader_old reader_new : R} {writer_old writer_new : W} {input : Vec ℕ Global} (IsSo : List ℕ → E → List ℕ → Type 0) (script : List ℕ) where
   -- the output of the script
   pub written : (result : Result E RunFault)
-      → Runs remaining read_failed contents has_failed has_stalled reader_old reader_new writer_old writer_new input input (IsSo input.items) (λ output. (end : E) × IsSo input.items end output) result
+      → Runs remaining read_failed contents has_failed has_stalled reader_old reader_new writer_old writer_new input input (IsSo input.items) result
       → remaining reader_old ≡ Some script → IfOk result (λ end. (output : List ℕ) × IsSo script end output × Appends (contents writer_old) (contents writer_new) output)
   written (Ok end) runs known = subst (λ items. (output : List ℕ) × IsSo items end output × Appends (contents writer_old) (contents writer_new) output) (whole (remaining reader_old) (remaining reader_new) script input.items known runs.ran.kept) runs.written
   written (Err fault) runs known = tt
 
   -- or a beginning of it, whatever the fault
   pub beginning : (result : Result E RunFault)
-      → Runs remaining read_failed contents has_failed has_stalled reader_old reader_new writer_old writer_new input input (IsSo input.items) (λ output. (end : E) × IsSo input.items end output) result
+      → Runs remaining read_failed contents has_failed has_stalled reader_old reader_new writer_old writer_new input input (IsSo input.items) result
       → remaining reader_old ≡ Some script → OnErr result ((writer_new ≡ writer_old)
       ⊎ ((output : List ℕ) × ((end : E) × IsSo script end output) × HasBegun contents has_failed has_stalled writer_old output writer_new))
   beginning (Ok end) runs known = tt

@@ -55,11 +55,11 @@ module _ {R W : Type 0} (remaining : R → Option (List ℕ)) (read_failed : R �
 
 module _ {R W E : Type 0} {remaining : R → Option (List ℕ)} {read_failed : R → Bool} {contents : W → Option (List ℕ)} {has_failed has_stalled : W → Bool}
     {reader_old reader_new : R} (reader_works : read_failed reader_old ≡ false) {writer_old : W} (writer_works : has_failed writer_old ≡ false) {input_old : Vec ℕ Global}
-    {IsOutput : E → List ℕ → Type 0} {MayBegin : List ℕ → Type 0} where
+    {IsOutput : E → List ℕ → Type 0} where
   -- its input was not read
   pub runs-unread : (fault : RunFault) → (IsErrOf {T = Vec ℕ Global} (Err fault) Memory → read_failed reader_new ≡ read_failed reader_old) →
       (IsErrOf {T = Vec ℕ Global} (Err fault) Read → read_failed reader_new ≡ true) → (IsErrOf {T = Vec ℕ Global} (Err fault) Write → ⊥) →
-      Runs remaining read_failed contents has_failed has_stalled reader_old reader_new writer_old writer_old input_old input_old IsOutput MayBegin (Err fault)
+      Runs remaining read_failed contents has_failed has_stalled reader_old reader_new writer_old writer_old input_old input_old IsOutput (Err fault)
   runs-unread fault memory read never = record {
     written = tt;
     ran = tt;
@@ -69,25 +69,25 @@ module _ {R W E : Type 0} {remaining : R → Option (List ℕ)} {read_failed : R
   }
 
   -- it was
-  pub runs-read : {MayWrite : E → Type 0} → ((end : E) → MayWrite end → (output : List ℕ) → IsOutput end output → MayBegin output) → {writer_new : W} {input_new : Vec ℕ Global} →
+  pub runs-read : (MayWrite : E → Type 0) → {writer_new : W} {input_new : Vec ℕ Global} →
       read_failed reader_new ≡ read_failed reader_old → IsWholeInput (remaining reader_old) (remaining reader_new) input_new.items →
       (result : Result E RunFault) → WritesOutput contents has_failed has_stalled MayWrite IsOutput writer_old writer_new result →
-      Runs remaining read_failed contents has_failed has_stalled reader_old reader_new writer_old writer_new input_old input_new IsOutput MayBegin result
-  runs-read follows {writer_new} {input_new} works whole (Ok end) so = record {
+      Runs remaining read_failed contents has_failed has_stalled reader_old reader_new writer_old writer_new input_old input_new IsOutput result
+  runs-read MayWrite {writer_new} {input_new} works whole (Ok end) so = record {
     written = (so.0, so.1, so.2.taken.bytes_are);
     ran = has-run remaining read_failed contents has_failed has_stalled reader_old reader_new reader_works writer_old writer_works input_old writer_new input_new works whole
         (so.2.taken.works, so.2.taken.moves);
     fault = tt;
     beginning = tt;
   }
-  runs-read follows {writer_new} {input_new} works whole (Err fault) so = record {
+  runs-read MayWrite {writer_new} {input_new} works whole (Err fault) so = record {
     written = tt;
     ran = tt;
     fault = fault-after remaining read_failed contents has_failed has_stalled reader_old reader_new reader_works writer_old writer_works input_old writer_new input_new works whole
         fault so.not_read so.write so.steady;
     beginning = elim so.beginning [
       | inl same ↦ inl same
-      | inr begun ↦ inr (begun.2.0, follows begun.0 begun.1 begun.2.0 begun.2.1, begun.2.2)
+      | inr begun ↦ inr (begun.2.0, (begun.0, begun.2.1), begun.2.2)
     ];
   }
 

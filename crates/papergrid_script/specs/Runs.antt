@@ -45,9 +45,9 @@ module _ {R W : Type 0} (remaining : R → Option (List ℕ)) (read_failed : R �
   IsRunFault Write = HasWriteFault
 
   -- a run that writes an output by how it ends. Where it breaks off, a beginning of such a one may be written
-  pub record Runs {E : Type 0} (IsOutput : E → List ℕ → Type 0) (MayBegin : List ℕ → Type 0) (result : Result E RunFault) : Type 0 where
+  pub record Runs {E : Type 0} (IsOutput : E → List ℕ → Type 0) (result : Result E RunFault) : Type 0 where
     pub written : IfOk result (λ end. (output : List ℕ) × IsOutput end output × Appends (contents writer_old) (contents writer_new) output)
     pub ran : OnOk result HasRun
     pub fault : IfErr result IsRunFault
     pub beginning : OnErr result ((writer_new ≡ writer_old)
-        ⊎ ((output : List ℕ) × MayBegin output × HasBegun contents has_failed has_stalled writer_old output writer_new))
+        ⊎ ((output : List ℕ) × ((end : E) × IsOutput end output) × HasBegun contents has_failed has_stalled writer_old output writer_new))

@@ -2,3 +2,4 @@ mod ChosenLemmas
 mod DocumentLemmas
 mod ValueLemmas
 mod WordLemmas
+mod WitnessLemmas

@@ -4,7 +4,6 @@ ghost use Rattle.std.specs.Prelude.{◌≡◌, OnOk, false, ⊤};
 ghost use Rattle.papergrid_script.specs.Runs.{Runs};
 ghost use Rattle.papergrid_script.specs.Writing.{WritesOutput};
 ghost use Rattle.papergrid_table.specs.Pictures.{IsCutOf, IsRunOf};
-ghost use Rattle.papergrid_table.specs.declared.picture.End.{End};
 
 use crate::arguments::{Kind, Wanted};
 use crate::document::{DocumentEnd, draw_text};
@@ -32,9 +31,7 @@ pub fn run_input<S: Source, W: Sink>(
     requires writer { W.has_failed writer.old ≡ false }
     ensures runs { Runs S.remaining S.has_failed W.contents W.has_failed W.has_stalled
         reader.old reader.new writer.old writer.new input.old input.new
-        (IsRunOf wanted.old.kind wanted.old wanted.new.request.cut input.new.items)
-        (λ output. (end : End) × IsRunOf wanted.old.kind wanted.old wanted.new.request.cut
-        input.new.items end output) result }
+        (IsRunOf wanted.old.kind wanted.old wanted.new.request.cut input.new.items) result }
     ensures wanted { OnOk result (IsCutOf wanted.old.kind wanted.old wanted.new) }
 {
     *input = read_all(alloc, reader)?;

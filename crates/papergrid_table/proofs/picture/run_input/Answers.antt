@@ -18,4 +18,4 @@ returns-clause-runs g c =
     let cut = c.draw_input.new.wanted.request.cut in
     let read = c.in_ok-input.ensures in
     let so = subst (λ input. WritesOutput g.W.Sink.contents g.W.Sink.has_failed g.W.Sink.has_stalled (λ _. ⊤) (IsRunOf wanted.kind wanted cut input) c.args.writer.now c.draw_input.new.writer c.draw_input.result) c.as_slice.ensures.value c.draw_input.ensures.written in
-    runs-read c.requires.reader c.requires.writer (λ end any output is. (end, is)) read.works read.whole c.draw_input.result so
+    runs-read c.requires.reader c.requires.writer (λ _. ⊤) read.works read.whole c.draw_input.result so
