@@ -2,7 +2,7 @@
 use Rattle.std.proofs.Common.{◌≡◌, ◌&&◌, ap, refl, subst, true}
 use Rattle.std.specs.Prelude.{◌↔◌, nat_eq}
 use Rattle.std.specs.Cmp.{nat_eq_equiv}
-use Rattle.std.proofs.lemmas.Bool.{and_from, and_parts, eqb-true, false≢true}
+use Rattle.std.proofs.lemmas.Bool.{and_from, and_parts, eqb-true}
 use Rattle.papergrid_values.specs.contracts.position.PositionPartialEq.TheImpl as position
 use Rattle.papergrid_layout.proofs.EqualLemmas.{same-position}
 use Rattle.papergrid_draw.specs.declared.error.DrawError.{DrawError}
@@ -31,9 +31,8 @@ itself-sizing Least = refl
 
 equal-sizing : (x y : Sizing) → sizing.ghosts.eq x y ≡ true → x ≡ y
 equal-sizing ByShares ByShares is = refl
-equal-sizing ByShares Least is = absurd (false≢true is)
-equal-sizing Least ByShares is = absurd (false≢true is)
 equal-sizing Least Least is = refl
+equal-sizing x y is = cc
 
 pub same-sizing : (x y : Sizing) → (sizing.ghosts.eq x y ≡ true) ↔ (x ≡ y)
 same-sizing x y = (equal-sizing x y, λ e. subst (λ z. sizing.ghosts.eq x z ≡ true) e (itself-sizing x))
@@ -47,14 +46,9 @@ itself-end BadScript = refl
 
 equal-end : (x y : RunEnd) → run_end.ghosts.eq x y ≡ true → x ≡ y
 equal-end Done Done is = refl
-equal-end Done Refused is = absurd (false≢true is)
-equal-end Done BadScript is = absurd (false≢true is)
-equal-end Refused Done is = absurd (false≢true is)
 equal-end Refused Refused is = refl
-equal-end Refused BadScript is = absurd (false≢true is)
-equal-end BadScript Done is = absurd (false≢true is)
-equal-end BadScript Refused is = absurd (false≢true is)
 equal-end BadScript BadScript is = refl
+equal-end x y is = cc
 
 pub same-end : (x y : RunEnd) → (run_end.ghosts.eq x y ≡ true) ↔ (x ≡ y)
 same-end x y = (equal-end x y, λ e. subst (λ z. run_end.ghosts.eq x z ≡ true) e (itself-end x))
@@ -66,14 +60,9 @@ itself-fault Write = refl
 
 equal-fault : (x y : RunFault) → run_fault.ghosts.eq x y ≡ true → x ≡ y
 equal-fault Memory Memory is = refl
-equal-fault Memory Read is = absurd (false≢true is)
-equal-fault Memory Write is = absurd (false≢true is)
-equal-fault Read Memory is = absurd (false≢true is)
 equal-fault Read Read is = refl
-equal-fault Read Write is = absurd (false≢true is)
-equal-fault Write Memory is = absurd (false≢true is)
-equal-fault Write Read is = absurd (false≢true is)
 equal-fault Write Write is = refl
+equal-fault x y is = cc
 
 pub same-fault : (x y : RunFault) → (run_fault.ghosts.eq x y ≡ true) ↔ (x ≡ y)
 same-fault x y = (equal-fault x y, λ e. subst (λ z. run_fault.ghosts.eq x z ≡ true) e (itself-fault x))
@@ -93,9 +82,6 @@ itself-reason TooLarge = refl
 
 equal-reason : (x y : Reason) → reason.ghosts.eq x y ≡ true → x ≡ y
 equal-reason (BadLine m) (BadLine n) is = ap (λ k. BadLine k) (eqb-true m n is)
-equal-reason (BadLine m) (OutOfTable q t h) is = absurd (false≢true is)
-equal-reason (BadLine m) TooLarge is = absurd (false≢true is)
-equal-reason (OutOfTable p s g) (BadLine n) is = absurd (false≢true is)
 equal-reason (OutOfTable p s g) (OutOfTable q t h) is =
     let first = and_parts (position.ghosts.eq p q) _ is in
     let rest = and_parts _ (nat_eq g.0 h.0 && nat_eq g.1 h.1) first.1 in
@@ -107,10 +93,8 @@ equal-reason (OutOfTable p s g) (OutOfTable q t h) is =
     let down = eqb-true g.0 h.0 shape.0 in
     let across = eqb-true g.1 h.1 shape.1 in
     λ i. OutOfTable (place i) (rows i, columns i) (down i, across i)
-equal-reason (OutOfTable p s g) TooLarge is = absurd (false≢true is)
-equal-reason TooLarge (BadLine n) is = absurd (false≢true is)
-equal-reason TooLarge (OutOfTable q t h) is = absurd (false≢true is)
 equal-reason TooLarge TooLarge is = refl
+equal-reason x y is = cc
 
 pub same-reason : (x y : Reason) → (reason.ghosts.eq x y ≡ true) ↔ (x ≡ y)
 same-reason x y = (equal-reason x y, λ e. subst (λ z. reason.ghosts.eq x z ≡ true) e (itself-reason x))
@@ -127,41 +111,12 @@ itself-draw_error draw_errors.Write = refl
 
 equal-draw_error : (x y : DrawError) → draw_error.ghosts.eq x y ≡ true → x ≡ y
 equal-draw_error (draw_errors.OutOfTable p) (draw_errors.OutOfTable q) is = ap (λ r. draw_errors.OutOfTable r) ((same-position p q).0 is)
-equal-draw_error (draw_errors.OutOfTable p) (draw_errors.NotTiled q) is = absurd (false≢true is)
-equal-draw_error (draw_errors.OutOfTable p) (draw_errors.NoRoom q) is = absurd (false≢true is)
-equal-draw_error (draw_errors.OutOfTable p) draw_errors.TooLarge is = absurd (false≢true is)
-equal-draw_error (draw_errors.OutOfTable p) (draw_errors.Memory e) is = absurd (false≢true is)
-equal-draw_error (draw_errors.OutOfTable p) draw_errors.Write is = absurd (false≢true is)
-equal-draw_error (draw_errors.NotTiled p) (draw_errors.OutOfTable q) is = absurd (false≢true is)
 equal-draw_error (draw_errors.NotTiled p) (draw_errors.NotTiled q) is = ap (λ r. draw_errors.NotTiled r) ((same-position p q).0 is)
-equal-draw_error (draw_errors.NotTiled p) (draw_errors.NoRoom q) is = absurd (false≢true is)
-equal-draw_error (draw_errors.NotTiled p) draw_errors.TooLarge is = absurd (false≢true is)
-equal-draw_error (draw_errors.NotTiled p) (draw_errors.Memory e) is = absurd (false≢true is)
-equal-draw_error (draw_errors.NotTiled p) draw_errors.Write is = absurd (false≢true is)
-equal-draw_error (draw_errors.NoRoom p) (draw_errors.OutOfTable q) is = absurd (false≢true is)
-equal-draw_error (draw_errors.NoRoom p) (draw_errors.NotTiled q) is = absurd (false≢true is)
 equal-draw_error (draw_errors.NoRoom p) (draw_errors.NoRoom q) is = ap (λ r. draw_errors.NoRoom r) ((same-position p q).0 is)
-equal-draw_error (draw_errors.NoRoom p) draw_errors.TooLarge is = absurd (false≢true is)
-equal-draw_error (draw_errors.NoRoom p) (draw_errors.Memory e) is = absurd (false≢true is)
-equal-draw_error (draw_errors.NoRoom p) draw_errors.Write is = absurd (false≢true is)
-equal-draw_error draw_errors.TooLarge (draw_errors.OutOfTable q) is = absurd (false≢true is)
-equal-draw_error draw_errors.TooLarge (draw_errors.NotTiled q) is = absurd (false≢true is)
-equal-draw_error draw_errors.TooLarge (draw_errors.NoRoom q) is = absurd (false≢true is)
 equal-draw_error draw_errors.TooLarge draw_errors.TooLarge is = refl
-equal-draw_error draw_errors.TooLarge (draw_errors.Memory e) is = absurd (false≢true is)
-equal-draw_error draw_errors.TooLarge draw_errors.Write is = absurd (false≢true is)
-equal-draw_error (draw_errors.Memory d) (draw_errors.OutOfTable q) is = absurd (false≢true is)
-equal-draw_error (draw_errors.Memory d) (draw_errors.NotTiled q) is = absurd (false≢true is)
-equal-draw_error (draw_errors.Memory d) (draw_errors.NoRoom q) is = absurd (false≢true is)
-equal-draw_error (draw_errors.Memory d) draw_errors.TooLarge is = absurd (false≢true is)
 equal-draw_error (draw_errors.Memory d) (draw_errors.Memory e) is = refl
-equal-draw_error (draw_errors.Memory d) draw_errors.Write is = absurd (false≢true is)
-equal-draw_error draw_errors.Write (draw_errors.OutOfTable q) is = absurd (false≢true is)
-equal-draw_error draw_errors.Write (draw_errors.NotTiled q) is = absurd (false≢true is)
-equal-draw_error draw_errors.Write (draw_errors.NoRoom q) is = absurd (false≢true is)
-equal-draw_error draw_errors.Write draw_errors.TooLarge is = absurd (false≢true is)
-equal-draw_error draw_errors.Write (draw_errors.Memory e) is = absurd (false≢true is)
 equal-draw_error draw_errors.Write draw_errors.Write is = refl
+equal-draw_error x y is = cc
 
 pub same-draw_error : (x y : DrawError) → (draw_error.ghosts.eq x y ≡ true) ↔ (x ≡ y)
 same-draw_error x y = (equal-draw_error x y, λ e. subst (λ z. draw_error.ghosts.eq x z ≡ true) e (itself-draw_error x))

@@ -9,7 +9,7 @@ use Rattle.papergrid_draw.specs.Faults.{IsDrawable}
 use Rattle.papergrid_draw.specs.declared.error.DrawError.{DrawError}
 use Rattle.papergrid_draw.specs.declared.error.DrawError.TheVariants as draw_errors
 use Rattle.papergrid_draw.specs.Lined.{lined}
-use Rattle.papergrid_config.specs.Laws.{IsConfiguredBy}
+use Rattle.papergrid_config.specs.History.{HasSettingHistory}
 use Rattle.papergrid_script.specs.Runs.{IsRunFault, Runs}
 use Rattle.papergrid_script.specs.Scripts.{IsScript, Table}
 use Rattle.papergrid_script.specs.declared.answer.RunEnd.{RunEnd}
@@ -46,7 +46,7 @@ picture-broken contents has_failed has_stalled IsSo IsWhy IsOutput end is old ne
 }
 
 module _ {W : Type 0} (contents : W → Option (List ℕ)) (has_failed has_stalled : W → Bool) where
-  module _ (sizing : Sizing) (table : Table) (config : SpannedConfig) (told : IsConfiguredBy table.settings config) where
+  module _ (sizing : Sizing) (table : Table) (config : SpannedConfig) (told : HasSettingHistory table.settings config) where
     abbrev IsSo : Drawing → Type 0
     IsSo = IsDrawingWith table.columns table.rows sizing config
 
@@ -102,16 +102,16 @@ module _ {R W : Type 0} (remaining : R → Option (List ℕ)) (read_failed : R �
   -- what a run leaves that broke off, where nobody sees what it kept
   broke-unseen : (fault : RunFault) → IsRunFault remaining read_failed contents has_failed has_stalled reader_old reader_new writer_old writer_new before input fault →
       IsRunFault remaining read_failed contents has_failed has_stalled reader_old reader_new writer_old writer_new input input fault
-  broke-unseen run_faults.Read is = record { read = is.read; nothing = is.nothing; kept = refl }
-  broke-unseen run_faults.Memory is = record { reader_works = is.reader_works; writer_works = is.writer_works; writer_moves = is.writer_moves; kept = elim is.kept [ inl same ↦ inl (refl, same.1) | inr whole ↦ inr whole ] }
-  broke-unseen run_faults.Write is = record { reader_works = is.reader_works; write = is.write; kept = is.kept }
+  broke-unseen run_faults.Read is = (is.0, (is.1.0, refl))
+  broke-unseen run_faults.Memory is = (is.0, elim is.1 [ inl left ↦ inl (left.0, (left.1.0, refl)) | inr whole ↦ inr whole ])
+  broke-unseen run_faults.Write is = is
 
   pub runs-unseen : {IsOutput : RunEnd → List ℕ → Type 0} (result : Result RunEnd RunFault) →
       Runs remaining read_failed contents has_failed has_stalled reader_old reader_new writer_old writer_new before input IsOutput result →
       Runs remaining read_failed contents has_failed has_stalled reader_old reader_new writer_old writer_new input input IsOutput result
   runs-unseen (Ok end) runs = record {
     written = runs.written;
-    ran = record { kept = runs.ran.kept; reader_works = runs.ran.reader_works; writer_works = runs.ran.writer_works; writer_moves = runs.ran.writer_moves };
+    ran = runs.ran;
     fault = tt;
     beginning = tt;
   }

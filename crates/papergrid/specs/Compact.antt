@@ -4,8 +4,7 @@ use Rattle.std.specs.Str.Lines.{lines as std_lines}
 use Rattle.papergrid_values.specs.declared.position.Position.{Position}
 use Rattle.papergrid_text.specs.Text.{with_width}
 use Rattle.papergrid_values.specs.declared.compact.CompactConfig.{CompactConfig}
-use Rattle.papergrid_config.specs.History.{HasSettingHistory}
-use Rattle.papergrid_config.specs.Made.{compact_settings}
+use Rattle.papergrid_config.specs.Made.{IsOfCompact}
 use Rattle.papergrid_config.specs.declared.spanned.SpannedConfig.{SpannedConfig}
 use Rattle.papergrid_draw.specs.Drawings.{Drawing}
 use Rattle.papergrid.specs.declared.held.CompactTable.{CompactTable}
@@ -26,7 +25,7 @@ compact_height compact = 1 + (compact.padding.top.size + compact.padding.bottom.
 module _ {C : Type 0} (tells : List (List C) → Type 0) (compact : CompactConfig) where
   -- what is drawn of rows of cells that are yielded, in so many columns, by a compact configuration
   pub record IsCompactTable (columns : ℕ) (table : CompactTable C) : Type 0 where
-    pub made : HasSettingHistory (compact_settings compact) table.config
+    pub made : IsOfCompact compact table.config
     pub told : tells (map (λ row. row.items) table.held.rows.items)
     pub has_columns : table.held.columns ≡ columns
     pub has_height : length table.held.rows.items ≢ 0 → table.height ≡ compact_height compact
@@ -34,7 +33,7 @@ module _ {C : Type 0} (tells : List (List C) → Type 0) (compact : CompactConfi
   -- there are such rows, each of which is higher than the greatest `usize`
   pub record AreRowsTooHigh : Type 0 where
     pub config : SpannedConfig
-    pub made : HasSettingHistory (compact_settings compact) config
+    pub made : IsOfCompact compact config
     pub cells : List (List C)
     pub told : tells cells
     pub some : length cells ≢ 0
@@ -47,7 +46,7 @@ module _ {C : Type 0} (text : C → List ℕ) (tells : List (List C) → Type 0)
   -- the drawing, by the configuration that the compact one stands for
   pub record IsCompactDrawing (d : Drawing) : Type 0 where
     pub config : SpannedConfig
-    pub made : HasSettingHistory (compact_settings compact) config
+    pub made : IsOfCompact compact config
     pub cells : List (List C)
     pub told : tells cells
     pub is : d ≡ drawing_of_rows (λ cell. first_line (text cell))

@@ -20,7 +20,6 @@ ghost use Rattle.papergrid_script.specs.declared.reading.RunFault.TheVariants as
 use crate::running::say;
 use crate::table_layout::configuration;
 use bumpalo::Bump;
-use papergrid_config::laws::history_decides;
 use papergrid_config::{NoColors, Setting, SpannedConfig};
 use papergrid_draw::printer::draw_cells;
 use papergrid_draw::{DrawError, Room, TextCells, draw_lines};
@@ -158,7 +157,6 @@ fn draw_read<W: Sink>(
     ensures { WritesOutput W.contents W.has_failed W.has_stalled (λ _. ⊤)
         (IsTablePicture sizing (table_seen script.entry)) writer.old writer.new result }
 {
-    history_decides();
     let Script {
         columns,
         settings,

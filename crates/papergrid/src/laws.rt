@@ -18,14 +18,15 @@ ghost use Rattle.papergrid.specs.Compact.{IsCompactDrawing, compact_height, firs
 ghost use Rattle.papergrid.specs.Pictures.{IsPictureRun};
 ghost use Rattle.papergrid.specs.Sized.{drawing_of_rows, parts_of};
 
+pub use papergrid_config::laws::grid_by_settings;
 use papergrid_draw::DrawError;
 pub use papergrid_draw::laws::{one_answer, one_picture};
 use papergrid_layout::Sizing;
 use papergrid_script::answer::RunEnd;
 use papergrid_script::explained::Reason;
 pub use papergrid_script::laws::{
-    grid_by_settings, one_estimate, one_list_of_lines, one_meaning, one_outcome, one_script,
-    reasons_by_ends, script_settings_in_range, worked_rows,
+    one_estimate, one_list_of_lines, one_meaning, one_outcome, one_script, reasons_by_ends,
+    script_settings_in_range, worked_rows,
 };
 use papergrid_script::reading::RunFault;
 use papergrid_script::script_setting::ScriptSetting;

@@ -8,10 +8,9 @@ ghost use Rattle.papergrid_walk.specs.Measures.{line_measure};
 ghost use Rattle.papergrid_tracks.specs.declared.sizing.Sizing.TheVariants as sizings;
 ghost use Rattle.papergrid_layout.specs.Answers.{UnlessMemory};
 ghost use Rattle.papergrid.specs.Layouts.{IsLaidOut};
-ghost use Rattle.papergrid_config.specs.Laws.{IsConfiguredBy};
+ghost use Rattle.papergrid_config.specs.History.{HasSettingHistory};
 ghost use Rattle.papergrid_text.specs.Records.{TellsRows};
 
-use papergrid_config::laws::history_decides;
 use papergrid_config::{Setting, SpannedConfig};
 use papergrid_layout::{
     Estimate, GridDimension, IterGridDimension, LayoutError, LeastGridDimension,
@@ -45,7 +44,7 @@ where
     requires in_range { All (λ setting. is_in_range setting ≡ true) settings.items }
     // By a configuration that the settings make, and that holds for each cell what they decide.
     ensures { UnlessMemory result ((config : SpannedConfig)
-        × IsConfiguredBy settings.items config
+        × HasSettingHistory settings.items config
         × TellsRows R.tells records (λ cells.
         IsLaidOut (spanned_grid config) (line_measure R.Iter.Cell.text)
         (R.columns records) cells sizings.ByShares result)) }
@@ -75,7 +74,7 @@ where
     requires in_range { All (λ setting. is_in_range setting ≡ true) settings.items }
     // By a configuration that the settings make, and that holds for each cell what they decide.
     ensures { UnlessMemory result ((config : SpannedConfig)
-        × IsConfiguredBy settings.items config
+        × HasSettingHistory settings.items config
         × TellsRows R.tells records (λ cells.
         IsLaidOut (spanned_grid config) (line_measure R.Iter.Cell.text)
         (R.columns records) cells sizings.Least result)) }
@@ -94,7 +93,7 @@ where
     requires lawful { R.is_lawful records }
     requires in_range { All (λ setting. is_in_range setting ≡ true) settings.items }
     ensures { UnlessMemory result ((config : SpannedConfig)
-        × IsConfiguredBy settings.items config
+        × HasSettingHistory settings.items config
         × TellsRows R.tells records (λ cells.
         IsLaidOut (spanned_grid config) (line_measure R.Iter.Cell.text)
         (R.columns records) cells T.sizing result)) }
@@ -122,9 +121,8 @@ fn estimated<D: Estimate<R, SpannedConfig> + Drop, R>(
 #[inline(always)]
 pub fn configuration(alloc: Global, settings: Vec<Setting>) -> Result<SpannedConfig, AllocError>
     requires { All (λ setting. is_in_range setting ≡ true) settings.items }
-    ensures { IfOk result (IsConfiguredBy settings.items) }
+    ensures { IfOk result (HasSettingHistory settings.items) }
 {
-    history_decides();
     let mut config = SpannedConfig::new(alloc);
     match config.apply_all(settings) {
         Ok(()) => Ok(config),

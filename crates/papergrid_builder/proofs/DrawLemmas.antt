@@ -25,7 +25,7 @@ use Rattle.papergrid_draw.specs.Drawings.{Drawing}
 use Rattle.papergrid_draw.specs.Faults.{IsDrawable}
 use Rattle.papergrid_draw.specs.Lined.{lined}
 use Rattle.papergrid_walk.specs.Measures.{text_measure}
-use Rattle.papergrid_config.specs.Laws.{IsConfiguredBy}
+use Rattle.papergrid_config.specs.History.{HasSettingHistory}
 use Rattle.papergrid_draw.specs.declared.error.DrawError.{DrawError}
 use Rattle.papergrid_draw.specs.declared.error.DrawError.TheVariants as draw_errors
 use Rattle.papergrid_draw.specs.Pictures.{IsDrawingWith, IsFaultWith, Unsized}
@@ -75,7 +75,7 @@ module _ (config : SpannedConfig) (rows : List (List (List ℕ))) (sizing : Sizi
   undrawn-refused draw_errors.Write is = tt
 
   -- by a configuration that settings make
-  module _ (settings : List Setting) (told : IsConfiguredBy settings config) where
+  module _ (settings : List Setting) (told : HasSettingHistory settings config) where
     pub not-found : (e : BuilderError) → IsUnfound config rows sizing e → IsNoFoundTable settings rows sizing e
     not-found (builder_errors.OutOfTable p) are = (config, told, are)
     not-found builder_errors.TooLarge are = (config, told, are)

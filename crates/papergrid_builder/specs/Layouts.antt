@@ -14,7 +14,7 @@ use Rattle.papergrid_tracks.specs.declared.sizing.Sizing.{Sizing}
 use Rattle.papergrid_tracks.specs.declared.error.LayoutError.{LayoutError}
 use Rattle.papergrid_tracks.specs.declared.error.LayoutError.TheVariants as layout_errors
 use Rattle.papergrid_walk.specs.Measures.{text_measure}
-use Rattle.papergrid_config.specs.Laws.{IsConfiguredBy}
+use Rattle.papergrid_config.specs.History.{HasSettingHistory}
 use Rattle.papergrid_builder.specs.BuilderStates.{FoundTable, longest}
 use Rattle.papergrid_builder.specs.declared.error.BuilderError.{BuilderError}
 use Rattle.papergrid_builder.specs.declared.error.BuilderError.TheVariants.{Hidden, Memory, NotEstimated, OutOfTable, TooLarge}
@@ -35,14 +35,14 @@ totals_of found = (found.along.columns.total, found.along.rows.total)
 module _ (settings : List Setting) (rows : List (List (List ℕ))) (sizing : Sizing) where
   -- the same by a configuration that the settings make; the totals are those of the table, and fit
   pub record IsFoundTable (found : FoundTable) : Type 0 where
-    pub configured : IsConfiguredBy settings found.config
+    pub configured : HasSettingHistory settings found.config
     pub sized : AreFoundSizes rows sizing found
     pub totals : totals_of found ≡ (total_along (view_of (parts_found found)) Columns, total_along (view_of (parts_found found)) Rows)
     pub fit : (direction : Direction) → total_along (view_of (parts_found found)) direction < 2 ^ 64
 
   -- why there are none
   abbrev pub HasNoSizes : LayoutError → Type 0
-  HasNoSizes e = (config : SpannedConfig) × IsConfiguredBy settings config × IsBothRefused (spanned_grid config) text_measure (longest rows) rows sizing e
+  HasNoSizes e = (config : SpannedConfig) × HasSettingHistory settings config × IsBothRefused (spanned_grid config) text_measure (longest rows) rows sizing e
 
   -- the same of the error that is answered; an allocation may fail
   abbrev pub IsNoFoundTable : BuilderError → Type 0

@@ -2,13 +2,13 @@
 use Rattle.std.proofs.Common.{◌≡◌, ℕ, List, map, sym, subst}
 use Rattle.std.specs.Prelude.{Err, IfOk, IsErrAnd, MatchResult, Ok, Result}
 use Rattle.papergrid_values.specs.declared.direction.Direction.{Direction}
+use Rattle.papergrid_tracks.specs.ForProofs.BySizing.{AreLeastSizes}
 use Rattle.papergrid_tracks.specs.declared.error.LayoutError.{LayoutError}
 use Rattle.papergrid_tracks.specs.declared.error.LayoutError.TheVariants.{OutOfTable, TooLarge, Memory}
 use Rattle.papergrid_tracks.specs.Sizings.{Answers, AreTooLargeBy, IsRefused}
 use Rattle.papergrid_tracks.specs.Problem.{Problem}
 use Rattle.papergrid_config.specs.Grids.{spanned_grid}
 use Rattle.papergrid_config.specs.declared.spanned.SpannedConfig.{SpannedConfig}
-use Rattle.papergrid_tracks.specs.LeastAnswers.{AreLeastSizes}
 use Rattle.papergrid_walk.specs.Cells.{problem_of}
 use Rattle.papergrid_maps.specs.Grids.{Grid}
 use Rattle.papergrid_layout.specs.Answers.{HoldAlong, IsBothRefused, UnlessMemory, UnlessMemoryError}
@@ -19,7 +19,7 @@ use Rattle.papergrid_layout.specs.declared.grid_dimension.GridDimension.{GridDim
 use Rattle.papergrid_layout.proofs.Told.{problem_told}
 use Rattle.papergrid_layout.proofs.Told as seen
 use Rattle.papergrid_config.specs.declared.setting.Setting.{Setting}
-use Rattle.papergrid_script.specs.Grids.{IsGridOf}
+use Rattle.papergrid_config.specs.Grids.{IsGridOf}
 use Rattle.papergrid.specs.Layouts.{IsLaidOut}
 
 module _ {A B : Type 0} (grid : Grid) (v : A → B) (f : B → ℕ × ℕ) (columns : ℕ) (rows : List (List B)) where

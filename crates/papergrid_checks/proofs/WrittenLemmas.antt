@@ -18,7 +18,7 @@ module _ {R W E : Type 0} {remaining : R → Option (List ℕ)} {read_failed : R
   pub written : (result : Result E RunFault)
       → Runs remaining read_failed contents has_failed has_stalled reader_old reader_new writer_old writer_new input input (IsSo input.items) result
       → remaining reader_old ≡ Some script → IfOk result (λ end. (output : List ℕ) × IsSo script end output × Appends (contents writer_old) (contents writer_new) output)
-  written (Ok end) runs known = subst (λ items. (output : List ℕ) × IsSo items end output × Appends (contents writer_old) (contents writer_new) output) (whole (remaining reader_old) (remaining reader_new) script input.items known runs.ran.kept) runs.written
+  written (Ok end) runs known = subst (λ items. (output : List ℕ) × IsSo items end output × Appends (contents writer_old) (contents writer_new) output) (whole (remaining reader_old) (remaining reader_new) script input.items known runs.ran.0.1) runs.written
   written (Err fault) runs known = tt
 
   -- or a beginning of it, whatever the fault
@@ -27,13 +27,13 @@ module _ {R W E : Type 0} {remaining : R → Option (List ℕ)} {read_failed : R
       → remaining reader_old ≡ Some script → OnErr result ((writer_new ≡ writer_old)
       ⊎ ((output : List ℕ) × ((end : E) × IsSo script end output) × HasBegun contents has_failed has_stalled writer_old output writer_new))
   beginning (Ok end) runs known = tt
-  beginning (Err Read) runs known = inl runs.fault.nothing
-  beginning (Err Memory) runs known = elim runs.fault.kept [
-    | inl same ↦ inl same.1
+  beginning (Err Read) runs known = inl runs.fault.1.0
+  beginning (Err Memory) runs known = elim runs.fault.1 [
+    | inl left ↦ inl left.1.0
     | inr is ↦
         subst (λ items. (writer_new ≡ writer_old) ⊎ ((output : List ℕ) × ((end : E) × IsSo items end output) × HasBegun contents has_failed has_stalled writer_old output writer_new))
-        (whole (remaining reader_old) (remaining reader_new) script input.items known is) runs.beginning
+        (whole (remaining reader_old) (remaining reader_new) script input.items known is.1) runs.beginning
   ]
   beginning (Err Write) runs known =
       subst (λ items. (writer_new ≡ writer_old) ⊎ ((output : List ℕ) × ((end : E) × IsSo items end output) × HasBegun contents has_failed has_stalled writer_old output writer_new))
-      (whole (remaining reader_old) (remaining reader_new) script input.items known runs.fault.kept) runs.beginning
+      (whole (remaining reader_old) (remaining reader_new) script input.items known runs.fault.0.1) runs.beginning

@@ -6,7 +6,6 @@ ghost use Rattle.papergrid_maps.specs.StoredMap.{stored_value};
 use papergrid::ansi::{ANSIBuf, ANSIFmt};
 use papergrid::config::Entity;
 use papergrid::config::spanned::EntityMap;
-use papergrid_maps::laws::history_decides;
 use std::alloc::{AllocError, Global};
 use std::fmt;
 use std::fmt::Write;
@@ -20,7 +19,6 @@ pub fn bold_head(alloc: Global) -> Result<EntityMap<Option<ANSIBuf>>, AllocError
     let bold = ANSIBuf::new(alloc, "\u{1b}[1m", "\u{1b}[0m")?;
     let mut colors = EntityMap::new(alloc, None);
     colors.insert(Entity::Row(0), Some(bold))?;
-    history_decides::<Option<ANSIBuf>>();
     Ok(colors)
 }
 

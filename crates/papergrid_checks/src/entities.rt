@@ -5,7 +5,6 @@ ghost use Rattle.papergrid_maps.specs.StoredMap.{stored_value};
 
 use papergrid::config::Entity;
 use papergrid::config::spanned::EntityMap;
-use papergrid_maps::laws::history_decides;
 use std::alloc::{AllocError, Global};
 
 /// A mark for each cell: `x` in the second column, and a blank elsewhere.
@@ -17,6 +16,5 @@ pub fn marks(alloc: Global) -> Result<EntityMap<char>, AllocError>
 {
     let mut marks = EntityMap::new(alloc, ' ');
     marks.insert(Entity::Column(1), 'x')?;
-    history_decides::<char>();
     Ok(marks)
 }

@@ -2,7 +2,7 @@
 
 ghost use Rattle.std.specs.Prelude.{◌≡◌, All, IfOk, List, length, true, ℕ};
 ghost use Rattle.papergrid_maps.specs.Grids.{Grid};
-ghost use Rattle.papergrid_script.specs.Grids.{IsGridOf};
+ghost use Rattle.papergrid_config.specs.Grids.{IsGridOf};
 ghost use Rattle.papergrid_config.specs.Applied.{is_in_range};
 ghost use Rattle.papergrid_layout.specs.Answers.{AreBothSizes};
 ghost use Rattle.papergrid_tracks.specs.declared.sizing.Sizing.TheVariants as sizings;

@@ -1,11 +1,12 @@
 //! Scripts: answered, and explained.
 
-ghost use Rattle.std.specs.Prelude.{◌≡◌, ◌⊎◌, IfOk, List, OnErr, false, ℕ};
+ghost use Rattle.std.specs.Prelude.{◌≡◌, ◌⊎◌, IfOk, List, OnErr, Option, false, ℕ};
 ghost use Rattle.std.specs.Io.KnownBytes.{Appends};
 ghost use Rattle.papergrid_tracks.specs.declared.sizing.Sizing.TheVariants.{ByShares};
 ghost use Rattle.papergrid_script.specs.Outputs.{IsAnswer, OfOutcome};
-ghost use Rattle.papergrid_script.specs.Reasons.{outcome_reason};
+ghost use Rattle.papergrid_script.specs.Reasons.{IsOutcomeReason};
 ghost use Rattle.papergrid_script.specs.declared.answer.RunEnd.{RunEnd};
+ghost use Rattle.papergrid_script.specs.declared.explained.Reason.{Reason};
 ghost use Rattle.papergrid_text.specs.Transfer.{HasBegun};
 ghost use Rattle.papergrid_checks.specs.Scripts.{bad_number};
 
@@ -29,7 +30,7 @@ pub fn answer_to<W: Sink>(alloc: Global, script: &[u8], writer: &mut W) -> Resul
 /// The number of a script's first bad line, counted from 1.
 pub fn bad_line(alloc: Global, script: &[u8]) -> Result<Option<usize>, AllocError>
     ensures { IfOk result (λ bad. OfOutcome ByShares script.now (λ outcome.
-        bad ≡ bad_number (outcome_reason outcome))) }
+        (why : Option Reason) × IsOutcomeReason outcome why × (bad ≡ bad_number why))) }
 {
     match explain(alloc, Sizing::ByShares, script)? {
         Some(Reason::BadLine(number)) => Ok(Some(number)),

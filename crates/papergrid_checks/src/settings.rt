@@ -6,7 +6,6 @@ ghost use Rattle.papergrid_tracks.specs.declared.sizing.Sizing.TheVariants.{BySh
 ghost use Rattle.papergrid_config.specs.Applied.{is_in_range};
 ghost use Rattle.papergrid_config.specs.Grids.{spanned_grid};
 ghost use Rattle.papergrid_config.specs.History.{HasSettingHistory};
-ghost use Rattle.papergrid_config.specs.Laws.{IsConfiguredBy};
 ghost use Rattle.papergrid_config.specs.declared.spanned.SpannedConfig.{SpannedConfig};
 ghost use Rattle.papergrid_layout.specs.Answers.{UnlessMemory};
 ghost use Rattle.papergrid_maps.specs.StoredMap.{stored_value};
@@ -22,7 +21,6 @@ use papergrid::dimension::LayoutError;
 use papergrid::dimension::iterable::IterGridDimension;
 use papergrid::layout;
 use papergrid::records::IterRecords;
-use papergrid_config::laws::history_decides;
 use std::alloc::{AllocError, Global};
 
 /// A blank left and right of each text.
@@ -42,7 +40,6 @@ pub fn one_by_one(alloc: Global) -> Result<SpannedConfig, AllocError>
     config.set_borders(Borders::filled('+'));
     config.set_column_span(Position::new(0, 0), 2)?;
     config.set_padding(Entity::Global, blanks())?;
-    history_decides();
     Ok(config)
 }
 
@@ -64,7 +61,8 @@ pub fn laid_out(
     rows: &[Vec<&str>],
 ) -> Result<IterGridDimension, LayoutError>
     requires { All (λ setting. is_in_range setting ≡ true) settings.items }
-    ensures { UnlessMemory result ((config : SpannedConfig) × IsConfiguredBy settings.items config
+    ensures { UnlessMemory result ((config : SpannedConfig)
+        × HasSettingHistory settings.items config
         × IsLaidOut (spanned_grid config) lent_measure 3 (cells_of rows.now) ByShares result) }
 {
     layout(alloc, settings, IterRecords::new(rows, 3, None))

@@ -3,11 +3,11 @@ pub mod Called
 pub mod ChangedLemmas
 pub mod Cleared
 pub mod Closures
-pub mod EffectiveCallLemmas
 pub mod EqualLemmas
 pub mod FoundLemmas
 pub mod GridLemmas
 pub mod ViewLemmas
 pub mod Reached
 pub mod SameLemmas
+pub mod SettingGridLemmas
 pub mod Told

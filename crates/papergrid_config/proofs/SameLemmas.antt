@@ -6,7 +6,7 @@ use Rattle.std.specs.Cmp.Lexicographic.{bytes_decides}
 use Rattle.std.specs.FinMap.{FinMap, get, nat_cmp-IsAntisymmetric, same_map}
 use Rattle.std.specs.Option.{option_eq}
 use Rattle.std.proofs.Math.Bool.{beq}
-use Rattle.std.proofs.lemmas.Bool.{and_from, and_parts, eqb-true, false≢true}
+use Rattle.std.proofs.lemmas.Bool.{and_from, and_parts, eqb-true}
 use Rattle.papergrid_values.specs.Borders.{frame_parts}
 use Rattle.papergrid_values.specs.Lines.{horizontal_parts, vertical_parts}
 use Rattle.papergrid_values.specs.declared.alignment.AlignmentHorizontal.TheVariants as horizontal
@@ -50,37 +50,25 @@ exact_indent x y h = let a = and_parts _ _ h in λ i. record { fill = eqb-true x
 
 pub exact_bool : IsExact beq
 exact_bool true true h = refl
-exact_bool true false h = absurd (false≢true h)
-exact_bool false true h = absurd (false≢true h)
 exact_bool false false h = refl
+exact_bool x y h = cc
 
 pub exact_horizontal : IsExact alignment_horizontal.ghosts.eq
 exact_horizontal horizontal.Left horizontal.Left h = refl
-exact_horizontal horizontal.Left horizontal.Center h = absurd (false≢true h)
-exact_horizontal horizontal.Left horizontal.Right h = absurd (false≢true h)
-exact_horizontal horizontal.Center horizontal.Left h = absurd (false≢true h)
 exact_horizontal horizontal.Center horizontal.Center h = refl
-exact_horizontal horizontal.Center horizontal.Right h = absurd (false≢true h)
-exact_horizontal horizontal.Right horizontal.Left h = absurd (false≢true h)
-exact_horizontal horizontal.Right horizontal.Center h = absurd (false≢true h)
 exact_horizontal horizontal.Right horizontal.Right h = refl
+exact_horizontal x y h = cc
 
 pub exact_vertical : IsExact alignment_vertical.ghosts.eq
 exact_vertical vertical.Top vertical.Top h = refl
-exact_vertical vertical.Top vertical.Center h = absurd (false≢true h)
-exact_vertical vertical.Top vertical.Bottom h = absurd (false≢true h)
-exact_vertical vertical.Center vertical.Top h = absurd (false≢true h)
 exact_vertical vertical.Center vertical.Center h = refl
-exact_vertical vertical.Center vertical.Bottom h = absurd (false≢true h)
-exact_vertical vertical.Bottom vertical.Top h = absurd (false≢true h)
-exact_vertical vertical.Bottom vertical.Center h = absurd (false≢true h)
 exact_vertical vertical.Bottom vertical.Bottom h = refl
+exact_vertical x y h = cc
 
 pub exact_offset : IsExact offset.ghosts.eq
 exact_offset (Start m) (Start n) h = ap Start (eqb-true m n h)
-exact_offset (Start m) (End n) h = absurd (false≢true h)
-exact_offset (End m) (Start n) h = absurd (false≢true h)
 exact_offset (End m) (End n) h = ap End (eqb-true m n h)
+exact_offset x y h = cc
 
 pub exact_color : IsExact color.ghosts.eq
 exact_color x y h = let a = and_parts _ _ h in λ i. ((bytes_decides x.0 y.0).0 a.0 i, (bytes_decides x.1 y.1).0 a.1 i)
@@ -90,15 +78,13 @@ exact_color x y h = let a = and_parts _ _ h in λ i. ((bytes_decides x.0 y.0).0 
 module _ {T : Type 0} (eq : T → T → Bool) (exact : IsExact eq) where
   pub exact_option : IsExact (option_eq eq)
   exact_option None None h = refl
-  exact_option None (Some y) h = absurd (false≢true h)
-  exact_option (Some x) None h = absurd (false≢true h)
   exact_option (Some x) (Some y) h = ap Some (exact x y h)
+  exact_option x y h = cc
 
 pub exact_optional : IsExact optional_eq
 exact_optional None None h = refl
-exact_optional None (Some y) h = absurd (false≢true h)
-exact_optional (Some x) None h = absurd (false≢true h)
 exact_optional (Some x) (Some y) h = ap Some (exact_color x y h)
+exact_optional x y h = cc
 
 module _ {T : Type 0} (eq : T → T → Bool) (exact : IsExact eq) where
   pub exact_sides : IsExact (sides_eq eq)
@@ -127,11 +113,10 @@ module _ {T : Type 0} (eq : T → T → Bool) (exact : IsExact eq) where
 
   exact_parts : IsExact (same_parts eq)
   exact_parts [] [] h = refl
-  exact_parts [] (y ∷ ys) h = absurd (false≢true h)
-  exact_parts (x ∷ xs) [] h = absurd (false≢true h)
   exact_parts (x ∷ xs) (y ∷ ys) h =
       let a = and_parts _ _ h in
       λ i. exact_option eq exact x y a.0 i ∷ exact_parts xs ys a.1 i
+  exact_parts xs ys h = cc
 
   -- the part at an index of equal lists
   part : {xs ys : List (Option T)} (k : ℕ) → xs ≡ ys → slice_index_or xs k None ≡ slice_index_or ys k None

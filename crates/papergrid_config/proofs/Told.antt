@@ -53,8 +53,34 @@ pub record HasParts (before further : List Setting) (config : SpannedConfig) : T
 parts_before : {before : List Setting} {config : SpannedConfig} → HasSettingHistory before config → HasParts before [] config
 parts_before told = search (kept, told.horizontal_chars, told.vertical_chars, told.horizontal_colors, told.vertical_colors, told.spans)
 
+joined : {C V : Type 0} {IsTold : List C → V → Type 0} {calls : Setting → List C} {before further : List Setting} {value : V}
+    → HasPart IsTold calls before further value → IsTold (flat_map calls (before ++ further)) value
+joined {IsTold = IsTold} {calls = calls} {before = before} {further = further} {value = value} part =
+    subst (λ xs. IsTold xs value) (sym (flat_map-append calls before further)) part.told
+
 told_by_part : {before further : List Setting} {config : SpannedConfig} → HasParts before further config → HasSettingHistory (before ++ further) config
-told_by_part parts = search (flat_map-append, parts.horizontal_chars.told, parts.vertical_chars.told, parts.horizontal_colors.told, parts.vertical_colors.told, parts.spans.told)
+told_by_part parts = record {
+  padding = joined parts.padding;
+  padding_color = joined parts.padding_color;
+  trim_horizontal = joined parts.trim_horizontal;
+  trim_vertical = joined parts.trim_vertical;
+  line_alignment = joined parts.line_alignment;
+  alignment_horizontal = joined parts.alignment_horizontal;
+  alignment_vertical = joined parts.alignment_vertical;
+  justification = joined parts.justification;
+  justification_color = joined parts.justification_color;
+  characters = joined parts.characters;
+  colors = joined parts.colors;
+  horizontal_chars = joined parts.horizontal_chars;
+  vertical_chars = joined parts.vertical_chars;
+  horizontal_colors = joined parts.horizontal_colors;
+  vertical_colors = joined parts.vertical_colors;
+  spans = joined parts.spans;
+  margin = joined parts.margin;
+  margin_color = joined parts.margin_color;
+  margin_offset = joined parts.margin_offset;
+  missing = joined parts.missing;
+}
 
 -- a call that succeeds adds a setting where each part is as its calls tell
 pub ok_by_part : {T E P : Type 0} {old new : SpannedConfig} (result : Result T E) (setting : Setting) → OnOk result P

@@ -1,12 +1,20 @@
--- The grid of a configuration by entity.
-use Rattle.std.specs.Prelude.{ℕ, Bool}
+-- The grid of a configuration by entity, and of settings.
+use Rattle.std.specs.Prelude.{◌≡◌, ◌↔◌, ℕ, Bool, IsTrue, List, flat_map, reverse}
 use Rattle.papergrid_values.specs.declared.direction.Direction.{Direction}
 use Rattle.papergrid_values.specs.declared.direction.Direction.TheVariants.{Columns, Rows}
+use Rattle.papergrid_values.specs.Compact.{all_sides, spaces}
+use Rattle.papergrid_values.specs.declared.indent.Indent.{Indent}
+use Rattle.papergrid_values.specs.declared.position.Position.{Position}
+use Rattle.papergrid_values.specs.declared.sides.Sides.{Sides}
+use Rattle.papergrid_tables.specs.BorderParts.{HasLine, parts_from}
 use Rattle.papergrid_tables.specs.StoredBorders.{StoredBorders}
 use Rattle.papergrid_tables.specs.LineTests.{horizontal_line_at, vertical_line_at}
 use Rattle.papergrid_maps.specs.Grids.{Grid, size_after, size_before}
 use Rattle.papergrid_maps.specs.StoredMap.{stored_value}
-use Rattle.papergrid_maps.specs.Spans.{is_visible, span_along}
+use Rattle.papergrid_maps.specs.EffectiveCall.{IsEffective}
+use Rattle.papergrid_maps.specs.Spans.{IsEffectiveSpan, IsVisible, is_visible, span_along}
+use Rattle.papergrid_config.specs.Parts.{character_calls, padding_calls, span_calls}
+use Rattle.papergrid_config.specs.declared.setting.Setting.{Setting}
 use Rattle.papergrid_config.specs.declared.spanned.SpannedConfig.{SpannedConfig}
 
 -- whether there is a line at i of count, along a direction
@@ -23,3 +31,12 @@ spanned_grid config = record {
   after = λ direction p. size_after direction (stored_value config.padding p);
   draws = line_along config.characters;
 }
+
+-- the spans, the visible positions, the paddings and the lines that settings decide: what a walk over a table reads of them
+pub record IsGridOf (settings : List Setting) (grid : Grid) : Type 0 where
+  pub spans : (direction : Direction) (p : Position) → IsEffectiveSpan direction p (flat_map span_calls settings) (grid.span direction p)
+  pub visible : (p : Position) → IsTrue (grid.shows p) ↔ IsVisible grid.span p
+  pub padding : (p : Position) (sides : Sides Indent) → IsEffective (flat_map padding_calls settings) (all_sides (spaces 0)) p sides →
+      (direction : Direction) → (grid.before direction p ≡ size_before direction sides) × (grid.after direction p ≡ size_after direction sides)
+  pub lines : (direction : Direction) (i count : ℕ) →
+      IsTrue (grid.draws direction count i) ↔ HasLine direction (parts_from (reverse (flat_map character_calls settings))) i count

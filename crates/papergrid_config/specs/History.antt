@@ -8,7 +8,10 @@ use Rattle.papergrid_values.specs.History as told
 use Rattle.papergrid_tables.specs.StoredBorders as lines
 use Rattle.papergrid_tables.specs.Overrides as overrides
 use Rattle.papergrid_values.specs.Compact.{all_sides, spaces}
+use Rattle.papergrid_maps.specs.EffectiveCall.{IsEffective}
 use Rattle.papergrid_maps.specs.StoredMap as map
+use Rattle.papergrid_maps.specs.declared.entity_map.MapCall.{MapCall}
+use Rattle.papergrid_values.specs.declared.position.Position.{Position}
 use Rattle.papergrid_maps.specs.Spans as spans
 use Rattle.papergrid_config.specs.Parts.{padding_calls, padding_color_calls, trim_horizontal_calls, trim_vertical_calls, line_alignment_calls, alignment_horizontal_calls, alignment_vertical_calls, justification_calls, justification_color_calls, character_calls, color_calls, horizontal_char_calls, vertical_char_calls, horizontal_color_calls, vertical_color_calls, span_calls, margins, margin_colors, margin_offsets, missing_characters}
 use Rattle.papergrid_config.specs.declared.setting.Setting.{Setting}
@@ -54,3 +57,8 @@ AppendsSettings old new further = told.AppendsHistory HasSettingHistory old new 
 -- the same for one further setting
 abbrev pub AddsSetting : SpannedConfig → SpannedConfig → Setting → Type 0
 AddsSetting old new setting = AppendsSettings old new (setting ∷ [])
+
+-- whatever settings make the configuration, their calls decide the value for the position
+abbrev pub IsEffectiveAt : {A : Type 0} → SpannedConfig → Position → A → (Setting → List (MapCall A)) → A → Type 0
+IsEffectiveAt config p default calls value =
+    (settings : List Setting) → HasSettingHistory settings config → IsEffective (flat_map calls settings) default p value

@@ -1,25 +1,29 @@
--- What is stored, and what settings decide and make.
-use Rattle.std.specs.Prelude.{◌≡◌, List}
+-- What is stored is what settings decide.
+use Rattle.std.specs.Prelude.{false, List, None}
+use Rattle.std.specs.List.{flat_map}
+use Rattle.papergrid_values.specs.Compact.{all_sides, spaces}
+use Rattle.papergrid_values.specs.declared.alignment.AlignmentHorizontal.TheVariants.{Left}
+use Rattle.papergrid_values.specs.declared.alignment.AlignmentVertical.TheVariants.{Top}
 use Rattle.papergrid_values.specs.declared.position.Position.{Position}
-use Rattle.papergrid_maps.specs.StoredMap.{stored_value}
-use Rattle.papergrid_config.specs.Effective as effective
-use Rattle.papergrid_config.specs.History.{HasSettingHistory}
+use Rattle.papergrid_maps.specs.EffectiveCall.{IsEffective}
+use Rattle.papergrid_maps.specs.StoredMap.{Stored, stored_value}
+use Rattle.papergrid_maps.specs.declared.entity_map.MapCall.{MapCall}
+use Rattle.papergrid_config.specs.Parts.{alignment_horizontal_calls, alignment_vertical_calls, justification_calls, justification_color_calls, line_alignment_calls, padding_calls, padding_color_calls, trim_horizontal_calls, trim_vertical_calls}
 use Rattle.papergrid_config.specs.declared.setting.Setting.{Setting}
 use Rattle.papergrid_config.specs.declared.spanned.SpannedConfig.{SpannedConfig}
 
--- what a configuration holds for each position is what the settings decide
-pub record HoldsEffectiveValues (settings : List Setting) (config : SpannedConfig) : Type 0 where
-  pub padding : (p : Position) → stored_value config.padding p ≡ effective.padding settings p
-  pub padding_color : (p : Position) → stored_value config.padding_color p ≡ effective.padding_color settings p
-  pub trim_horizontal : (p : Position) → stored_value config.trim_horizontal p ≡ effective.trim_horizontal settings p
-  pub trim_vertical : (p : Position) → stored_value config.trim_vertical p ≡ effective.trim_vertical settings p
-  pub line_alignment : (p : Position) → stored_value config.line_alignment p ≡ effective.line_alignment settings p
-  pub alignment_horizontal : (p : Position) → stored_value config.alignment_horizontal p ≡ effective.alignment_horizontal settings p
-  pub alignment_vertical : (p : Position) → stored_value config.alignment_vertical p ≡ effective.alignment_vertical settings p
-  pub justification : (p : Position) → stored_value config.justification p ≡ effective.justification settings p
-  pub justification_color : (p : Position) → stored_value config.justification_color p ≡ effective.justification_color settings p
+-- a map holds for each position what these calls of the settings decide
+abbrev pub HoldsEffective : {A : Type 0} → List Setting → A → (Setting → List (MapCall A)) → Stored A → Type 0
+HoldsEffective settings default calls stored = (p : Position) → IsEffective (flat_map calls settings) default p (stored_value stored p)
 
--- a configuration that the settings make, and so one that holds for each cell what they decide
-pub record IsConfiguredBy (settings : List Setting) (config : SpannedConfig) : Type 0 where
-  pub told : HasSettingHistory settings config
-  pub effective : HoldsEffectiveValues settings config
+-- so does each part of a configuration
+pub record HoldsEffectiveValues (settings : List Setting) (config : SpannedConfig) : Type 0 where
+  pub padding : HoldsEffective settings (all_sides (spaces 0)) padding_calls config.padding
+  pub padding_color : HoldsEffective settings (all_sides None) padding_color_calls config.padding_color
+  pub trim_horizontal : HoldsEffective settings false trim_horizontal_calls config.trim_horizontal
+  pub trim_vertical : HoldsEffective settings false trim_vertical_calls config.trim_vertical
+  pub line_alignment : HoldsEffective settings false line_alignment_calls config.line_alignment
+  pub alignment_horizontal : HoldsEffective settings Left alignment_horizontal_calls config.alignment_horizontal
+  pub alignment_vertical : HoldsEffective settings Top alignment_vertical_calls config.alignment_vertical
+  pub justification : HoldsEffective settings 32 justification_calls config.justification
+  pub justification_color : HoldsEffective settings None justification_color_calls config.justification_color

@@ -2,8 +2,6 @@
 pub mod Applied
 pub mod Changed
 pub mod ConfigSame
-pub mod Effective
-pub mod EffectiveCall
 pub mod Grids
 pub mod Laws
 pub mod Lines

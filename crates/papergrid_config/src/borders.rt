@@ -1,9 +1,9 @@
 //! The characters and the colours of lines: the frame, the defaults, lines, and the borders of
 //! cells. Source: `config/spanned/mod.rs`.
 
-ghost use Rattle.std.specs.Prelude.{◌≡◌, ◌+◌, ◌<◌, ◌^◌, nat_eq, OnOk, OnErr, IfOk, option_copied};
+ghost use Rattle.std.specs.Prelude.{◌≡◌, map, ◌+◌, ◌<◌, ◌^◌, nat_eq, OnOk, OnErr, IfOk, option_copied};
 ghost use Rattle.std.specs.FinMap.{get as value_at};
-ghost use Rattle.papergrid_values.specs.Borders.{border_map};
+ghost use Rattle.papergrid_values.specs.Borders.{border_parts};
 ghost use Rattle.papergrid_tables.specs.StoredBorders.{parts_of_borders};
 ghost use Rattle.papergrid_tables.specs.BorderParts.{found_border};
 ghost use Rattle.papergrid_maps.specs.Listed.{HasAtEach};
@@ -141,8 +141,9 @@ impl SpannedConfig {
     pub fn get_border_color(&self, position: Position, shape: (usize, usize)) -> Border<&ANSIBuf>
         requires row { position.row + 1 < 2 ^ 64 }
         requires col { position.col + 1 < 2 ^ 64 }
-        ensures { border_map (λ part. part.now) result
-            ≡ found_border (parts_of_borders self.now.colors) position shape.0 shape.1 }
+        ensures { map option_copied (border_parts result)
+            ≡ border_parts (found_border (parts_of_borders self.now.colors)
+            position shape.0 shape.1) }
     {
         self.colors.get_border(position, shape)
     }

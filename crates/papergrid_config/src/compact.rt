@@ -2,8 +2,7 @@
 
 ghost use Rattle.std.specs.Prelude.{◌≡◌, false, IfOk, option_map};
 ghost use Rattle.papergrid_values.specs.Colors.{texts_of};
-ghost use Rattle.papergrid_config.specs.Made.{colored_frame, colored_sides, compact_settings};
-ghost use Rattle.papergrid_config.specs.History.{HasSettingHistory};
+ghost use Rattle.papergrid_config.specs.Made.{AreColoredSides, IsColoredFrame, IsOfCompact};
 
 use crate::spanned::SpannedConfig;
 use papergrid_values::{ANSIBuf, ANSIStr, Borders, CompactConfig, Entity, Sides};
@@ -14,7 +13,7 @@ impl SpannedConfig {
     /// alignment for the whole table, its margin, its frame and their colours, or out of memory.
     /// Colours of a padding and a margin are set even where both of their texts are empty.
     pub fn from_compact(alloc: Global, compact: &CompactConfig) -> Result<SpannedConfig, AllocError>
-        ensures { IfOk result (λ config. HasSettingHistory (compact_settings compact.now) config) }
+        ensures { IfOk result (IsOfCompact compact.now) }
     {
         let mut config = SpannedConfig::new(alloc);
         config.set_padding(Entity::Global, *compact.get_padding())?;
@@ -35,7 +34,7 @@ fn owned_sides(
     alloc: Global,
     colors: &Sides<ANSIStr<'static>>,
 ) -> Result<Sides<Option<ANSIBuf>>, AllocError>
-    ensures { IfOk result (λ sides. sides ≡ colored_sides colors.now) }
+    ensures { IfOk result (AreColoredSides colors.now) }
 {
     let mut is_refused = false;
     let sides = Sides {
@@ -56,7 +55,7 @@ fn owned_frame(
     alloc: Global,
     colors: &Borders<ANSIStr<'static>>,
 ) -> Result<Borders<ANSIBuf>, AllocError>
-    ensures { IfOk result (λ frame. frame ≡ colored_frame colors.now) }
+    ensures { IfOk result (IsColoredFrame colors.now) }
 {
     let mut is_refused = false;
     let frame = Borders {

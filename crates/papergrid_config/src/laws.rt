@@ -1,19 +1,17 @@
 //! Laws over the definitions that the contracts cite.
 
-ghost use Rattle.std.specs.Prelude.{◌≡◌, ◌∷◌, [], ◌↔◌, ◌≤◌, ℕ, IsSome, IsTrue, List, length, true};
+ghost use Rattle.std.specs.Prelude.{◌≡◌, ◌∷◌, [], ◌↔◌, ◌≤◌, ℕ, IsSome, IsTrue, List, true};
 ghost use Rattle.std.specs.List.{list_all};
 ghost use Rattle.papergrid_values.specs.declared.direction.Direction.{Direction};
 ghost use Rattle.papergrid_values.specs.declared.direction.Direction.TheVariants.{Columns, Rows};
 ghost use Rattle.papergrid_values.specs.declared.position.Position.{Position};
 ghost use Rattle.papergrid_tables.specs.StoredBorders.{StoredBorders, parts_of_borders};
 ghost use Rattle.papergrid_tables.specs.BorderParts.{HasLine};
-ghost use Rattle.papergrid_maps.specs.MapCalls.{effective_value};
-ghost use Rattle.papergrid_maps.specs.declared.entity_map.MapCall.{MapCall};
+ghost use Rattle.papergrid_maps.specs.Grids.{Grid};
 ghost use Rattle.papergrid_config.specs.ConfigSame.{HoldTheSameSettings};
-ghost use Rattle.papergrid_config.specs.EffectiveCall.{IsEffective};
 ghost use Rattle.papergrid_config.specs.Laws.{HoldsEffectiveValues};
 ghost use Rattle.papergrid_config.specs.Lines.{shown_horizontal, shown_intersection, shown_vertical};
-ghost use Rattle.papergrid_config.specs.Grids.{line_along};
+ghost use Rattle.papergrid_config.specs.Grids.{IsGridOf, line_along, spanned_grid};
 ghost use Rattle.papergrid_config.specs.History.{HasSettingHistory};
 ghost use Rattle.papergrid_config.specs.declared.setting.Setting.{Setting};
 ghost use Rattle.papergrid_config.specs.declared.spanned.SpannedConfig.{SpannedConfig};
@@ -31,16 +29,14 @@ pub fn history_decides()
         HoldsEffectiveValues settings config }
 {}
 
-/// What is decided for a cell is what its deciding call says, by its index in the list: the last
-/// override that counts, else the column's value that stands, else the row's, else the whole
-/// table's, else the one given at first; and nothing else is.
-pub fn effective_by_index<T>()
-    ensures effective { (given : T) (calls : List (MapCall T)) (r c : ℕ) →
-        IsEffective calls given r c (length calls)
-        (effective_value given calls (record { row = r; col = c })) }
-    ensures only { (given : T) (calls : List (MapCall T)) (r c : ℕ) (v : T) →
-        IsEffective calls given r c (length calls) v →
-        v ≡ effective_value given calls (record { row = r; col = c }) }
+/// What an estimate reads of a configuration that settings make, which is which positions are visible and the spans,
+/// the paddings and the lines, is what the settings decide. They decide one grid, and no other.
+pub fn grid_by_settings()
+    ensures read { (settings : List Setting) (config : SpannedConfig) →
+        HasSettingHistory settings config → IsGridOf settings (spanned_grid config) }
+    ensures some { (settings : List Setting) → (grid : Grid) × IsGridOf settings grid }
+    ensures only { (settings : List Setting) (grid other : Grid) →
+        IsGridOf settings grid → IsGridOf settings other → grid ≡ other }
 {}
 
 /// There is a line in a border table exactly where its parts have one.

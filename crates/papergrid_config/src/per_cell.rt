@@ -1,12 +1,14 @@
 //! What is set by entity and asked for by position. Source: `config/spanned/mod.rs`.
 
-ghost use Rattle.std.specs.Prelude.{◌≡◌, ◌≢◌, AllPairs, IfOk, OnOk, OnErr, IsOk, option_copied};
+ghost use Rattle.std.specs.Prelude.{◌≡◌, ◌≢◌, false, None, AllPairs, IfOk, OnOk, OnErr, IsOk, option_copied};
+ghost use Rattle.papergrid_values.specs.Compact.{all_sides, spaces};
+ghost use Rattle.papergrid_values.specs.declared.alignment.AlignmentHorizontal.TheVariants.{Left};
+ghost use Rattle.papergrid_values.specs.declared.alignment.AlignmentVertical.TheVariants.{Top};
 ghost use Rattle.papergrid_values.specs.declared.entity.Entity.{Entity};
 ghost use Rattle.papergrid_maps.specs.Listed.{AreSetCells};
 ghost use Rattle.papergrid_maps.specs.StoredMap.{held_for, stored_value};
-ghost use Rattle.papergrid_config.specs.Effective as effective;
-ghost use Rattle.papergrid_config.specs.Effective.{IsEffectiveAt};
-ghost use Rattle.papergrid_config.specs.History.{AddsSetting};
+ghost use Rattle.papergrid_config.specs.History.{AddsSetting, IsEffectiveAt};
+ghost use Rattle.papergrid_config.specs.Parts.{alignment_horizontal_calls, alignment_vertical_calls, justification_calls, justification_color_calls, line_alignment_calls, padding_calls, padding_color_calls, trim_horizontal_calls, trim_vertical_calls};
 ghost use Rattle.papergrid_config.specs.declared.setting.Setting.TheVariants.{SetPadding, SetPaddingColor, SetTrimHorizontal, SetTrimVertical, SetLineAlignment, SetAlignmentHorizontal, SetAlignmentVertical, SetJustification, SetJustificationColor};
 
 use crate::spanned::SpannedConfig;
@@ -33,7 +35,8 @@ impl SpannedConfig {
     /// The room round a cell, in columns of a terminal (left, right) and lines (top, bottom).
     pub fn get_padding(&self, position: Position) -> &Sides<Indent>
         ensures stored { result.now ≡ stored_value self.now.padding position }
-        ensures effective { IsEffectiveAt self.now position effective.padding result.now }
+        ensures effective { IsEffectiveAt self.now position
+            (all_sides (spaces 0)) padding_calls result.now }
     {
         self.padding.get(position)
     }
@@ -73,7 +76,8 @@ impl SpannedConfig {
     /// The colours of the room round a cell.
     pub fn get_padding_color(&self, position: Position) -> &Sides<Option<ANSIBuf>>
         ensures stored { result.now ≡ stored_value self.now.padding_color position }
-        ensures effective { IsEffectiveAt self.now position effective.padding_color result.now }
+        ensures effective { IsEffectiveAt self.now position
+            (all_sides None) padding_color_calls result.now }
     {
         self.padding_color.get(position)
     }
@@ -92,7 +96,7 @@ impl SpannedConfig {
     /// Whether spaces of a cell's text are trimmed left and right. The name is the original's.
     pub fn get_trim_horizonal(&self, position: Position) -> bool
         ensures stored { result ≡ stored_value self.now.trim_horizontal position }
-        ensures effective { IsEffectiveAt self.now position effective.trim_horizontal result }
+        ensures effective { IsEffectiveAt self.now position false trim_horizontal_calls result }
     {
         *self.trim_horizontal.get(position)
     }
@@ -112,7 +116,7 @@ impl SpannedConfig {
     /// Whether blank lines of a cell's text are trimmed at the top and the bottom.
     pub fn get_trim_vertical(&self, position: Position) -> bool
         ensures stored { result ≡ stored_value self.now.trim_vertical position }
-        ensures effective { IsEffectiveAt self.now position effective.trim_vertical result }
+        ensures effective { IsEffectiveAt self.now position false trim_vertical_calls result }
     {
         *self.trim_vertical.get(position)
     }
@@ -131,7 +135,7 @@ impl SpannedConfig {
     /// Whether each line of a cell's text is aligned by itself.
     pub fn get_line_alignment(&self, position: Position) -> bool
         ensures stored { result ≡ stored_value self.now.line_alignment position }
-        ensures effective { IsEffectiveAt self.now position effective.line_alignment result }
+        ensures effective { IsEffectiveAt self.now position false line_alignment_calls result }
     {
         *self.line_alignment.get(position)
     }
@@ -143,7 +147,12 @@ impl SpannedConfig {
           vertical_trim = stored_value self.now.trim_vertical position;
           allow_lines_alignment = stored_value self.now.line_alignment position;
         } }
-        ensures effective { IsEffectiveAt self.now position effective.formatting result }
+        ensures horizontal_trim { IsEffectiveAt self.now position
+            false trim_horizontal_calls result.horizontal_trim }
+        ensures vertical_trim { IsEffectiveAt self.now position
+            false trim_vertical_calls result.vertical_trim }
+        ensures line_alignment { IsEffectiveAt self.now position
+            false line_alignment_calls result.allow_lines_alignment }
     {
         Formatting::new(
             self.get_trim_horizonal(position),
@@ -172,8 +181,8 @@ impl SpannedConfig {
     /// Where a cell's text stands between left and right.
     pub fn get_alignment_horizontal(&self, position: Position) -> &AlignmentHorizontal
         ensures stored { result.now ≡ stored_value self.now.alignment_horizontal position }
-        ensures effective { IsEffectiveAt self.now position effective.alignment_horizontal
-            result.now }
+        ensures effective { IsEffectiveAt self.now position
+            Left alignment_horizontal_calls result.now }
     {
         self.alignment_horizontal.get(position)
     }
@@ -198,8 +207,8 @@ impl SpannedConfig {
     /// Where a cell's text stands between top and bottom.
     pub fn get_alignment_vertical(&self, position: Position) -> &AlignmentVertical
         ensures stored { result.now ≡ stored_value self.now.alignment_vertical position }
-        ensures effective { IsEffectiveAt self.now position effective.alignment_vertical
-            result.now }
+        ensures effective { IsEffectiveAt self.now position
+            Top alignment_vertical_calls result.now }
     {
         self.alignment_vertical.get(position)
     }
@@ -219,7 +228,7 @@ impl SpannedConfig {
     /// The character that fills up the lines of a cell's text.
     pub fn get_justification(&self, position: Position) -> char
         ensures stored { result ≡ stored_value self.now.justification position }
-        ensures effective { IsEffectiveAt self.now position effective.justification result }
+        ensures effective { IsEffectiveAt self.now position 32 justification_calls result }
     {
         *self.justification.get(position)
     }
@@ -244,8 +253,8 @@ impl SpannedConfig {
     /// The colour of that character.
     pub fn get_justification_color(&self, position: Position) -> Option<&ANSIBuf>
         ensures stored { option_copied result ≡ stored_value self.now.justification_color position }
-        ensures effective { IsEffectiveAt self.now position effective.justification_color
-            (option_copied result) }
+        ensures effective { IsEffectiveAt self.now position
+            None justification_color_calls (option_copied result) }
     {
         self.justification_color.get(position).as_ref()
     }

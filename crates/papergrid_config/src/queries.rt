@@ -1,10 +1,13 @@
 //! Whether something of a kind is set at all. Source: `config/spanned/mod.rs`.
 
-ghost use Rattle.std.specs.Prelude.{◌≡◌, ◌↔◌, IsTrue, not};
+ghost use Rattle.std.specs.Prelude.{◌≡◌, ◌↔◌, [], IsTrue, not};
 ghost use Rattle.papergrid_values.specs.Keys.{sides_parts};
 ghost use Rattle.papergrid_values.specs.Parts.{none_set};
+ghost use Rattle.papergrid_tables.specs.Overrides.{HasOverrideHistory};
+ghost use Rattle.papergrid_tables.specs.StoredBorders.{HasBorderHistory};
+ghost use Rattle.papergrid_maps.specs.StoredColors.{IsBlank};
 ghost use Rattle.papergrid_maps.specs.StoredMap.{HasNothing};
-ghost use Rattle.papergrid_config.specs.Queries.{HasBorderColors, HasCommonLines, HasFormatting, HasJustification, HasOffsetChars, HasSetSide};
+ghost use Rattle.papergrid_config.specs.Queries.{HasCommonLines, HasSetSide};
 
 use crate::spanned::SpannedConfig;
 use papergrid_values::{ANSIBuf, Sides};
@@ -12,14 +15,15 @@ use papergrid_values::{ANSIBuf, Sides};
 impl SpannedConfig {
     /// Whether the table of border colours holds something.
     pub fn has_border_colors(&self) -> bool
-        ensures { IsTrue result ↔ HasBorderColors self.now }
+        ensures { IsTrue result ↔ (HasBorderHistory [] self.now.colors → ⊥) }
     {
         !self.colors.is_empty()
     }
 
     /// Whether a character is set at an offset of a line.
     pub fn has_offset_chars(&self) -> bool
-        ensures { IsTrue result ↔ HasOffsetChars self.now }
+        ensures { IsTrue result ↔ (HasOverrideHistory [] self.now.horizontal_chars
+            × HasOverrideHistory [] self.now.vertical_chars → ⊥) }
     {
         let horizontal = self.horizontal_chars.is_empty();
         let vertical = self.vertical_chars.is_empty();
@@ -45,7 +49,8 @@ impl SpannedConfig {
     /// Whether a justification or its colour is set for a column, a row or a cell, or the colour
     /// for the whole table.
     pub fn has_justification(&self) -> bool
-        ensures { IsTrue result ↔ HasJustification self.now }
+        ensures { IsTrue result ↔ (HasNothing self.now.justification
+            × IsBlank self.now.justification_color → ⊥) }
     {
         let character = self.justification.is_empty();
         let color = self.justification_color.is_empty();
@@ -69,7 +74,8 @@ impl SpannedConfig {
 
     /// Whether one of the three flags of texts is set for a column, a row or a cell.
     pub fn has_formatting(&self) -> bool
-        ensures { IsTrue result ↔ HasFormatting self.now }
+        ensures { IsTrue result ↔ (HasNothing self.now.trim_horizontal
+            × (HasNothing self.now.trim_vertical × HasNothing self.now.line_alignment) → ⊥) }
     {
         let horizontal = self.trim_horizontal.is_empty();
         let vertical = self.trim_vertical.is_empty();

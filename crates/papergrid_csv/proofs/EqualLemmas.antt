@@ -18,9 +18,8 @@ itself-format Tsv = refl
 
 equal-format : (x y : Format) → format.ghosts.eq x y ≡ true → x ≡ y
 equal-format (Csv byte) (Csv other) is = ap Csv (eqb-true byte other is)
-equal-format (Csv byte) Tsv is = absurd (false≢true is)
-equal-format Tsv (Csv other) is = absurd (false≢true is)
 equal-format Tsv Tsv is = refl
+equal-format x y is = cc
 
 pub same-reading : (x y : Reading) → (reading.ghosts.eq x y ≡ true) ↔ (x ≡ y)
 same-reading x y = (

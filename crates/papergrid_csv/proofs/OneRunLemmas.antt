@@ -9,7 +9,6 @@ use Rattle.papergrid_values.specs.declared.sides.Sides.{Sides}
 use Rattle.papergrid_config.specs.ConfigSame.{HoldTheSameSettings}
 use Rattle.papergrid_config.specs.Grids.{spanned_grid}
 use Rattle.papergrid_config.specs.History.{HasSettingHistory, newest_or}
-use Rattle.papergrid_config.specs.Laws.{IsConfiguredBy}
 use Rattle.papergrid_config.specs.Parts.{margins}
 use Rattle.papergrid_config.specs.declared.setting.Setting.{Setting}
 use Rattle.papergrid_config.specs.declared.spanned.SpannedConfig.{SpannedConfig}
@@ -60,7 +59,7 @@ module _ (request : Request) (input : List ℕ) (d : Drawing) (so : IsCsvDrawing
   it = texts_drawing so.config so.table.shown so.drawn.widths so.drawn.heights
 
   margin : so.config.margin ≡ all_sides (spaces 0)
-  margin = so.configured.told.told.margin
+  margin = so.configured.told.margin
       ∙ ap (λ values. newest_or (all_sides (spaces 0)) (reverse values))
       (no-margins request so.table.columns so.table.rows so.configured.fitted (fitted-none margins (λ _ _. refl) request.junctions (table_settings so.table) (table_shape so.table) so.config so.configured.fitted so.configured.fit))
 
@@ -108,8 +107,8 @@ module _ (request : Request) (input : List ℕ)
     same-shape : table_shape t ≡ table_shape u
     same-shape = let one = one-table request input t u in λ i. (length (one.rows i), one.columns i)
 
-    plain-same : (x y : SpannedConfig) → IsConfiguredBy (table_settings t) x → IsConfiguredBy (table_settings u) y → HoldTheSameSettings x y
-    plain-same x y a b = same-by (table_settings u) x y (subst (λ settings. HasSettingHistory settings x) same-table-settings a.told) b.told
+    plain-same : (x y : SpannedConfig) → HasSettingHistory (table_settings t) x → HasSettingHistory (table_settings u) y → HoldTheSameSettings x y
+    plain-same x y a b = same-by (table_settings u) x y (subst (λ settings. HasSettingHistory settings x) same-table-settings a) b
 
     same-fitted : (junctions : Option Junctions) (x y : SpannedConfig) (fitted more : List Setting) → AreFitted junctions (table_settings t) (table_shape t) x fitted →
         AreFitted junctions (table_settings u) (table_shape u) y more → fitted ≡ more
@@ -133,7 +132,7 @@ module _ (request : Request) (input : List ℕ)
     same-configs x y a b =
         let settings : table_settings t ++ a.fitted ≡ table_settings u ++ b.fitted =
         λ i. same-table-settings i ++ same-fitted request.junctions x y a.fitted b.fitted a.fit b.fit i in
-        same-by (table_settings u ++ b.fitted) x y (subst (λ list. HasSettingHistory list x) settings a.told.told) b.told.told
+        same-by (table_settings u ++ b.fitted) x y (subst (λ list. HasSettingHistory list x) settings a.told) b.told
 
     moved-drawing : (config : SpannedConfig) (d : Drawing) → IsDrawingWith t.columns t.shown request.sizing config d → IsDrawingWith u.columns u.shown request.sizing config d
     moved-drawing config d is =

@@ -11,8 +11,7 @@ use Rattle.papergrid_values.specs.declared.entity.Entity.TheVariants.{Global}
 use Rattle.papergrid_values.specs.declared.horizontal_line.HorizontalLine.{HorizontalLine}
 use Rattle.papergrid_values.specs.declared.position.Position.{Position}
 use Rattle.papergrid_maps.specs.declared.entity_map.MapCall.TheVariants.{Insert}
-use Rattle.papergrid_config.specs.Effective as effective
-use Rattle.papergrid_config.specs.ForProofs.Made.{characters_of}
+use Rattle.papergrid_config.specs.ForProofs.Made.{characters_of, padding_of}
 use Rattle.papergrid_config.specs.Parts.{character_calls, margins, padding_calls, span_calls}
 use Rattle.papergrid_config.specs.declared.setting.Setting.{Setting}
 use Rattle.papergrid_config.specs.declared.setting.Setting.TheVariants.{InsertHorizontalLine, SetAlignmentHorizontal, SetAlignmentVertical, SetBorder, SetBorders, SetPadding}
@@ -99,7 +98,7 @@ module _ (request : Request) (columns : ℕ) (rows : List (List (List ℕ))) whe
       let head = head-none padding_calls (λ _ _. refl) request.head in
       parts-are padding_calls request columns rows (others-none padding_calls (λ _ _. refl) (λ _ _. refl) (spans-all (λ s. padding_calls s ≡ []) (λ _ _. refl) (λ _ _. refl) request.spans.items)) ∙ rw head refl
 
-  pub padding-of : (fitted : List Setting) → flat_map padding_calls fitted ≡ [] → (p : Position) → effective.padding (settings_of request columns rows ++ fitted) p ≡ request.padding
+  pub padding-of : (fitted : List Setting) → flat_map padding_calls fitted ≡ [] → (p : Position) → padding_of (settings_of request columns rows ++ fitted) p ≡ request.padding
   padding-of fitted none p =
       let are : flat_map padding_calls (settings_of request columns rows ++ fitted) ≡ Insert Global request.padding ∷ [] = with-fitted padding_calls fitted none ∙ paddings-are in
       rw are refl

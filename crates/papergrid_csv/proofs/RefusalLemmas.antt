@@ -118,7 +118,7 @@ module _ (request : Request) (empty : request.spans.items ≡ []) (columns : ℕ
   unfitted-so : (junctions : Option Junctions) (shape : ℕ × ℕ) (e : DrawError) → IsRefusal e → IsUnfitted junctions (settings_of request columns rows) shape e → e ≡ draw_errors.TooLarge
   unfitted-so None shape e named is = absurd is
   unfitted-so (Some junctions) shape e named is =
-      unfitted-large is.0 shape (none-spanned (settings_of request columns rows) is.0 (no-spans request columns rows empty) is.1.told) e is.2 named
+      unfitted-large is.0 shape (none-spanned (settings_of request columns rows) is.0 (no-spans request columns rows empty) is.1) e is.2 named
 
   fault-large : (shape : ℕ × ℕ) (e : DrawError) → IsRefusal e → IsUnpictured request (settings_of request columns rows) shape columns shown e → e ≡ draw_errors.TooLarge
   fault-large shape e named (Unfitted is) = unfitted-so request.junctions shape e named is
@@ -128,7 +128,7 @@ module _ (request : Request) (empty : request.spans.items ≡ []) (columns : ℕ
       flat_map-append span_calls settings configured.fitted
       ∙ ap (λ l. flat_map span_calls settings ++ l) (fitted-none span_calls (λ _ _. refl) request.junctions settings shape config configured.fitted configured.fit)
       ∙ append-nil (flat_map span_calls settings) ∙ no-spans request columns rows empty in
-      faulty-large config (none-spanned (settings ++ configured.fitted) config none configured.told.told) e named fault
+      faulty-large config (none-spanned (settings ++ configured.fitted) config none configured.told) e named fault
 
 pub refused-large : (request : Request) (input : List ℕ) (e : DrawError) → request.spans.items ≡ [] → IsCsvRefused request input e → e ≡ draw_errors.TooLarge
 refused-large request input e empty so =

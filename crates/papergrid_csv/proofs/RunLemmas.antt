@@ -4,7 +4,7 @@ use Rattle.std.specs.Borrow.{Bor}
 use Rattle.std.proofs.lemmas.List.{length-map}
 use Rattle.papergrid_tracks.specs.declared.error.LayoutError.{LayoutError}
 use Rattle.papergrid_tracks.specs.declared.error.LayoutError.TheVariants as layout_errors
-use Rattle.papergrid_config.specs.History.{AppendsSettings}
+use Rattle.papergrid_config.specs.History.{AppendsSettings, HasSettingHistory}
 use Rattle.papergrid_config.specs.declared.setting.Setting.{Setting}
 use Rattle.papergrid_config.specs.declared.spanned.SpannedConfig.{SpannedConfig}
 use Rattle.papergrid_layout.specs.Answers.{IsBothRefused, UnlessMemoryError}
@@ -16,7 +16,6 @@ use Rattle.papergrid_draw.specs.declared.error.DrawError.{DrawError}
 use Rattle.papergrid_draw.specs.declared.error.DrawError.TheVariants as draw_errors
 use Rattle.papergrid_draw.specs.declared.crossings.Junctions.{Junctions}
 use Rattle.papergrid_walk.specs.Measures.{text_measure}
-use Rattle.papergrid_config.specs.Laws.{IsConfiguredBy}
 use Rattle.papergrid_draw.specs.Sinks.{IsRefusal}
 use Rattle.papergrid_draw.specs.Pictures.{IsDrawingWith, Undrawn, Unsized}
 use Rattle.papergrid_csv.specs.Pictures.{AreFitted, Faulty, IsConfigured, IsCsvRun, IsCsvTable, IsUnfitted, Unfitted, WritesCsv}
@@ -67,12 +66,12 @@ module _ {W : Type 0} (contents : W → Option (List ℕ)) (has_failed has_stall
 
 -- ---- crossings
 
-pub fitted-of : (junctions : Option Junctions) (settings : List Setting) (plain config : SpannedConfig) (shape : ℕ × ℕ) (fitted : List Setting) → IsConfiguredBy settings plain →
+pub fitted-of : (junctions : Option Junctions) (settings : List Setting) (plain config : SpannedConfig) (shape : ℕ × ℕ) (fitted : List Setting) → HasSettingHistory settings plain →
     AreFittingOf junctions plain shape fitted → AppendsSettings plain config fitted → AreFitted junctions settings shape config fitted
 fitted-of None settings plain config shape fitted told are appends = are
-fitted-of (Some junctions) settings plain config shape fitted told are appends = (plain, told, are, record { history = settings; told = told.told; appends = appends })
+fitted-of (Some junctions) settings plain config shape fitted told are appends = (plain, told, are, record { history = settings; told = told; appends = appends })
 
-pub unfitted-of : (junctions : Option Junctions) (settings : List Setting) (plain : SpannedConfig) (shape : ℕ × ℕ) (e : DrawError) → IsConfiguredBy settings plain →
+pub unfitted-of : (junctions : Option Junctions) (settings : List Setting) (plain : SpannedConfig) (shape : ℕ × ℕ) (e : DrawError) → HasSettingHistory settings plain →
     IsFitFaultOf junctions plain shape e → IsUnfitted junctions settings shape e
 unfitted-of None settings plain shape e told is = is
 unfitted-of (Some junctions) settings plain shape e told is = (plain, told, is)

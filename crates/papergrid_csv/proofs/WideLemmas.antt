@@ -27,7 +27,8 @@ use Rattle.papergrid_draw.proofs.SettingLemmas.{with-separators}
 use Rattle.papergrid_draw.proofs.WidthLemmas.{lines-wide}
 use Rattle.papergrid_draw.specs.declared.crossings.Junctions.{Junctions}
 use Rattle.papergrid_walk.specs.Measures.{text_measure}
-use Rattle.papergrid_config.specs.Laws.{IsConfiguredBy}
+use Rattle.papergrid_maps.proofs.StoredMapLemmas.{stored_effective}
+use Rattle.papergrid_config.specs.History.{HasSettingHistory}
 use Rattle.papergrid_draw.specs.Pictures.{texts_drawing}
 use Rattle.papergrid_draw.proofs.PictureLemmas.{lines-of-rows, room-with}
 use Rattle.papergrid_csv.specs.Pictures.{AreFitted, IsCsvDrawing, table_settings, table_shape}
@@ -47,8 +48,7 @@ pub record FitBoth (config : SpannedConfig) (columns : ℕ) (rows : List (List (
 
 pub both-fit : (config : SpannedConfig) (columns : ℕ) (rows : List (List (List ℕ))) (sizing : Sizing) (widths heights : List ℕ) →
     AreBothSizes (spanned_grid config) text_measure columns rows sizing widths heights → FitBoth config columns rows widths heights
-both-fit config columns rows ByShares widths heights are = record { across = are.widths.fits; down = are.heights.fits }
-both-fit config columns rows Least widths heights are = record { across = are.widths.least.fits; down = are.heights.least.fits }
+both-fit config columns rows sizing widths heights are = record { across = are.widths.fits; down = are.heights.fits }
 
 -- fields at positions are texts where all are
 at-position : (rows : List (List (List ℕ))) → All (All IsUtf8) rows → (p : Position) (cell : List ℕ) → IsCellAt rows p cell → IsUtf8 cell
@@ -56,16 +56,16 @@ at-position rows all p cell is = subst IsUtf8 is.1.1 (all p.row [] is.0 p.col ce
 
 -- a vertical line of the frame stands between columns, whatever crossings were fitted
 vertical-stays : (request : Request) (columns : ℕ) (rows : List (List (List ℕ))) (junctions : Option Junctions) (shape : ℕ × ℕ) (config : SpannedConfig) (fitted : List Setting) →
-    AreFitted junctions (settings_of request columns rows) shape config fitted → IsConfiguredBy (settings_of request columns rows ++ fitted) config → IsSome request.frame.vertical →
+    AreFitted junctions (settings_of request columns rows) shape config fitted → HasSettingHistory (settings_of request columns rows ++ fitted) config → IsSome request.frame.vertical →
     (shown : List (List (List ℕ))) (widths heights : List ℕ) → (length heights, length widths) ≡ shape → (j : ℕ) → 0 < j → j < length widths → draws_vertical (texts_drawing config shown widths heights) j ≡ true
 vertical-stays request columns rows None shape config fitted are told some shown widths heights counted j above below =
-    let plain : IsConfiguredBy (settings_of request columns rows) config =
-    subst (λ s. IsConfiguredBy s config) (ap (λ l. settings_of request columns rows ++ l) are ∙ append-nil (settings_of request columns rows)) told in
-    line-between config.characters request.frame j (length widths) (ap (λ c. c.frame) (border_history (flat_map character_calls (settings_of request columns rows)) config.characters plain.told.characters) ∙ frame-of request columns rows) some above below
+    let plain : HasSettingHistory (settings_of request columns rows) config =
+    subst (λ s. HasSettingHistory s config) (ap (λ l. settings_of request columns rows ++ l) are ∙ append-nil (settings_of request columns rows)) told in
+    line-between config.characters request.frame j (length widths) (ap (λ c. c.frame) (border_history (flat_map character_calls (settings_of request columns rows)) config.characters plain.characters) ∙ frame-of request columns rows) some above below
 vertical-stays request columns rows (Some junctions) shape config fitted are told some shown widths heights counted j above below =
     let (plain, configured, fit, becomes) = are in
     let same = fit.lines config becomes (texts_drawing plain shown widths heights) (texts_drawing config shown widths heights) refl refl counted counted j in
-    same.0 ∙ line-between plain.characters request.frame j (length widths) (ap (λ c. c.frame) (border_history (flat_map character_calls (settings_of request columns rows)) plain.characters configured.told.characters) ∙ frame-of request columns rows) some above below
+    same.0 ∙ line-between plain.characters request.frame j (length widths) (ap (λ c. c.frame) (border_history (flat_map character_calls (settings_of request columns rows)) plain.characters configured.characters) ∙ frame-of request columns rows) some above below
 
 module _ (request : Request) (input : List ℕ) (d : Drawing) (so : IsCsvDrawing request input d) where
   abbrev settings : List Setting
@@ -88,7 +88,7 @@ module _ (request : Request) (input : List ℕ) (d : Drawing) (so : IsCsvDrawing
       inl (vertical-stays request so.table.columns so.table.rows request.junctions (table_shape so.table) so.config fitted so.configured.fit so.configured.told some so.table.shown so.drawn.widths so.drawn.heights counted
       p.col above is.col_in))
   apart (inr padded) = inl (λ p is above.
-      inr (subst (λ n. 0 < n) (sym (ap (λ s. s.left.size) (so.configured.told.effective.padding p
+      inr (subst (λ n. 0 < n) (sym (ap (λ s. s.left.size) (stored_effective _ _ _ so.configured.told.padding p
       ∙ padding-of request so.table.columns so.table.rows fitted (fitted-none padding_calls (λ _ _. refl) request.junctions settings (table_shape so.table) so.config fitted so.configured.fit) p))) padded))
 
   pub csv-wide : IsSeparating request → (IsSome request.frame.vertical) ⊎ (0 < request.padding.left.size) →
@@ -102,6 +102,6 @@ module _ (request : Request) (input : List ℕ) (d : Drawing) (so : IsCsvDrawing
       subst (λ (e : Drawing). All (λ line. width_of (pieces_text (pieces_of line)) ≡ total_along (layout_of e) Columns) (drawn_lines e)) (sym so.drawn.is)
       (lines-wide it tiled
       (texts-honest it (λ text. text) so.table.shown (λ p _. lines-of-rows so.table.shown p) utf8)
-      (with-separators it (settings ++ fitted) so.configured.told.told all)
+      (with-separators it (settings ++ fitted) so.configured.told all)
       (apart stands)
       (room-with so.table.columns so.table.shown request.sizing so.config it (record { widths = so.drawn.widths; heights = so.drawn.heights; sized = so.drawn.sized; is = refl })))

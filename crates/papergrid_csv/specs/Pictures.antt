@@ -11,7 +11,7 @@ use Rattle.papergrid_draw.specs.declared.error.DrawError.{DrawError}
 use Rattle.papergrid_draw.specs.Crossings.{BecomesBy, FitCrossings, IsFitFault}
 use Rattle.papergrid_draw.specs.Lined.{lined}
 use Rattle.papergrid_draw.specs.declared.crossings.Junctions.{Junctions}
-use Rattle.papergrid_config.specs.Laws.{IsConfiguredBy}
+use Rattle.papergrid_config.specs.History.{HasSettingHistory}
 use Rattle.papergrid_draw.specs.Sinks.{IsRefusal}
 use Rattle.papergrid_draw.specs.Pictures.{IsDrawingWith, IsFaultWith}
 use Rattle.papergrid_script.specs.Writing.{WritesOutput}
@@ -41,21 +41,21 @@ pub record IsCsvTable (request : Request) (input : List ℕ) : Type 0 where
 abbrev pub AreFitted : Option Junctions → List Setting → ℕ × ℕ → SpannedConfig → List Setting → Type 0
 AreFitted None settings shape config fitted = fitted ≡ []
 AreFitted (Some junctions) settings shape config fitted =
-    (plain : SpannedConfig) × IsConfiguredBy settings plain × FitCrossings plain shape junctions fitted
+    (plain : SpannedConfig) × HasSettingHistory settings plain × FitCrossings plain shape junctions fitted
     × BecomesBy plain config fitted
 
 -- why there are none
 abbrev pub IsUnfitted : Option Junctions → List Setting → ℕ × ℕ → DrawError → Type 0
 IsUnfitted None settings shape e = ⊥
 IsUnfitted (Some junctions) settings shape e =
-    (plain : SpannedConfig) × IsConfiguredBy settings plain × IsFitFault plain shape e
+    (plain : SpannedConfig) × HasSettingHistory settings plain × IsFitFault plain shape e
 
 module _ (request : Request) (settings : List Setting) (shape : ℕ × ℕ) where
   -- a configuration made by these settings, and those by which its crossings fit the spans
   pub record IsConfigured (config : SpannedConfig) : Type 0 where
     pub fitted : List Setting
     pub fit : AreFitted request.junctions settings shape config fitted
-    pub told : IsConfiguredBy (settings ++ fitted) config
+    pub told : HasSettingHistory (settings ++ fitted) config
 
   -- why rows have no picture: their crossings can't be fitted, or they have no sizes, or can't be drawn with them
   pub data IsUnpictured (columns : ℕ) (shown : List (List (List ℕ))) (e : DrawError) : Type 0 where

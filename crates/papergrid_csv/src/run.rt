@@ -19,7 +19,6 @@ use crate::reading::{Rows, RowsError, read_rows};
 use crate::request::{Request, settings};
 use crate::shown::cut_rows;
 use bumpalo::Bump;
-use papergrid_config::laws::history_decides;
 use papergrid_config::{NoColors, Setting, SpannedConfig};
 use papergrid_draw::{
     DrawError, Junctions, Room, TextCells, check_tiles, draw_lines, fitted_crossings,
@@ -191,7 +190,6 @@ pub fn configured(
         IsRefusal e → IsUnfitted request.now.junctions settings.items shape e) }
     ensures works { IfErr result (λ e. e ≢ Write) }
 {
-    history_decides();
     let mut config = SpannedConfig::new(alloc);
     if let Err(_) = config.apply_all(settings) {
         return Err(DrawError::Memory(AllocError));

@@ -32,6 +32,7 @@ use Rattle.papergrid_maps.specs.ForProofs.Made.{spans_made}
 use Rattle.papergrid_maps.specs.StoredMap as maps
 use Rattle.papergrid_maps.specs.StoredMap.{Stored}
 use Rattle.papergrid_maps.specs.declared.entity_map.MapCall.{MapCall}
+use Rattle.papergrid_maps.proofs.HistoryEqual.{history_same}
 use Rattle.papergrid_maps.proofs.MadeTables.{span_history}
 use Rattle.papergrid_config.specs.History.{HasSettingHistory, newest_or}
 use Rattle.papergrid_config.specs.Parts.{padding_calls, padding_color_calls, trim_horizontal_calls, trim_vertical_calls, line_alignment_calls, alignment_horizontal_calls, alignment_vertical_calls, justification_calls, justification_color_calls, character_calls, color_calls, horizontal_char_calls, vertical_char_calls, horizontal_color_calls, vertical_color_calls, span_calls, margins, margin_colors, margin_offsets, missing_characters}
@@ -172,13 +173,7 @@ module _ (old new : SpannedConfig) (marks : List (Position × ℕ)) (becomes : B
   same-map : {T : Type 0} (given : T) (calls : Setting → List (MapCall T)) → ((mark : Position × ℕ) → calls (crossing_setting mark) ≡ []) →
       (m n : Stored T) → maps.HasMapHistory given (flat_map calls after) m → maps.HasMapHistory given (flat_map calls becomes.history) n → m ≡ n
   same-map given calls none m n later history =
-      let now = subst (λ list. maps.HasMapHistory given list m) (no-calls calls none) later in
-      λ i. record {
-        global = (now.global ∙ sym history.global) i;
-        columns = same_map nat_cmp_total nat_cmp-IsAntisymmetric m.columns n.columns (λ c. now.columns c ∙ sym (history.columns c)) i;
-        rows = same_map nat_cmp_total nat_cmp-IsAntisymmetric m.rows n.rows (λ r. now.rows r ∙ sym (history.rows r)) i;
-        cells = same_map position_total exact_positions m.cells n.cells (λ p. now.cells p ∙ sym (history.cells p)) i;
-      }
+      history_same given (flat_map calls becomes.history) m n (subst (λ list. maps.HasMapHistory given list m) (no-calls calls none) later) history
 
   same-value : {T : Type 0} (given : T) (values : Setting → List T) → ((mark : Position × ℕ) → values (crossing_setting mark) ≡ []) →
       {v w : T} → v ≡ newest_or given (reverse (flat_map values after)) → w ≡ newest_or given (reverse (flat_map values becomes.history)) → v ≡ w

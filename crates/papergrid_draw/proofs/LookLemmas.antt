@@ -12,7 +12,7 @@ use Rattle.papergrid_values.specs.declared.position.Position.{Position}
 use Rattle.papergrid_values.specs.declared.sides.Sides.{Sides}
 use Rattle.papergrid_maps.specs.StoredColors.{IsBlank}
 use Rattle.papergrid_maps.specs.StoredMap.{HasNothing, Stored, HoldsValue, stored_value}
-use Rattle.papergrid_config.specs.Queries.{HasFormatting, HasJustification, HasSetSide}
+use Rattle.papergrid_config.specs.Queries.{HasSetSide}
 use Rattle.papergrid_config.specs.declared.spanned.SpannedConfig.{SpannedConfig}
 use Rattle.papergrid_draw.specs.Contents as contents
 use Rattle.papergrid_draw.specs.Contents.{look_of}
@@ -127,9 +127,9 @@ aligned_blanks look blanks horizontal between = record {
 pub record Answers (config : SpannedConfig) (padding padding_color formatting vertical justification : Bool) : Type 0 where
   pub of_padding : IsTrue padding ↔ (HasNothing config.padding → ⊥)
   pub of_padding_color : IsTrue padding_color ↔ HasSetSide config.padding_color
-  pub of_formatting : IsTrue formatting ↔ HasFormatting config
+  pub of_formatting : IsTrue formatting ↔ (HasNothing config.trim_horizontal × (HasNothing config.trim_vertical × HasNothing config.line_alignment) → ⊥)
   pub of_vertical : IsTrue vertical ↔ (HasNothing config.alignment_vertical → ⊥)
-  pub of_justification : IsTrue justification ↔ HasJustification config
+  pub of_justification : IsTrue justification ↔ (HasNothing config.justification × IsBlank config.justification_color → ⊥)
 
 module _ (config : SpannedConfig) (padding padding_color formatting vertical justification : Bool) (told : Answers config padding padding_color formatting vertical justification) where
   -- none of them found something: the look is common

@@ -120,13 +120,9 @@ one-sizes ByShares problem xs ys a b = a.exact ∙ sym b.exact
 one-sizes Least problem xs ys a b = (furthest_right-is problem a.table xs).0 a.exact ∙ sym ((furthest_right-is problem b.table ys).0 b.exact)
 
 sized-not-large : (sizing : Sizing) (problem : Problem) (sizes : List ℕ) → AreSizesBy sizing problem sizes → AreTooLargeBy sizing problem → ⊥
-sized-not-large ByShares problem sizes a b =
+sized-not-large sizing problem sizes a b =
     let small = a.total in
-    let large = subst (λ s. 2 ^ 64 ≤ total_of problem s) (sym a.exact) b.too_large in
-    omega (arith, small, large)
-sized-not-large Least problem sizes a b =
-    let small = a.total in
-    let large = b.others_too_large sizes a.least.fits in
+    let large = b.too_large sizes a.exact in
     omega (arith, small, large)
 
 -- ---- a drawing by configurations that hold the same
@@ -270,10 +266,10 @@ module _ (columns : ℕ) (texts : List (List (List ℕ))) (sizing : Sizing) wher
   -- by settings, where configurations that they make hold the same
   module _ (settings : List Setting) (same : (x y : SpannedConfig) → HasSettingHistory settings x → HasSettingHistory settings y → HoldTheSameSettings x y) where
     pub one-picture : (d e : Drawing) → IsDrawingBy columns texts sizing settings d → IsDrawingBy columns texts sizing settings e → (printed d ≡ printed e) × (lined d ≡ lined e)
-    one-picture d e a b = one-drawn a.0 b.0 (same a.0 b.0 a.1.told b.1.told) d e a.2 b.2
+    one-picture d e a b = one-drawn a.0 b.0 (same a.0 b.0 a.1 b.1) d e a.2 b.2
 
     pub drawn-or-none : (d : Drawing) (e : DrawError) → IsDrawingBy columns texts sizing settings d → IsDrawable d → IsRefusal e → IsPictureFault columns texts sizing settings e → ⊥
-    drawn-or-none d e a drawable named b = drawn-or-faulty a.0 b.0 (same a.0 b.0 a.1.told b.1.told) d e a.2 drawable named b.2
+    drawn-or-none d e a drawable named b = drawn-or-faulty a.0 b.0 (same a.0 b.0 a.1 b.1) d e a.2 drawable named b.2
 
     pub one-reason : (e f : DrawError) → IsRefusal e → IsRefusal f → IsPictureFault columns texts sizing settings e → IsPictureFault columns texts sizing settings f → e ≡ f
-    one-reason e f named other a b = one-fault a.0 b.0 (same a.0 b.0 a.1.told b.1.told) e f named other a.2 b.2
+    one-reason e f named other a b = one-fault a.0 b.0 (same a.0 b.0 a.1 b.1) e f named other a.2 b.2

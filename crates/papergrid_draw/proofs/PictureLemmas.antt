@@ -31,7 +31,7 @@ use Rattle.papergrid_draw.specs.declared.error.DrawError.{DrawError}
 use Rattle.papergrid_draw.specs.declared.error.DrawError.TheVariants as draw_errors
 use Rattle.papergrid_walk.specs.Measures.{text_measure}
 use Rattle.papergrid_draw.specs.Cells.{lines_at, text_lines}
-use Rattle.papergrid_config.specs.Laws.{IsConfiguredBy}
+use Rattle.papergrid_config.specs.History.{HasSettingHistory}
 use Rattle.papergrid_draw.specs.Pictures.{IsDrawingBy, IsDrawingWith, IsFaultWith, IsPictureFault, Undrawn, Unsized, texts_drawing}
 use Rattle.papergrid_text.specs.Transfer.{IsTaken}
 use Rattle.papergrid_draw.specs.Sinks.{IsCutOff, IsRefusal, IsUndrawn, WritesPicture}
@@ -151,7 +151,7 @@ module _ {W : Type 0} (contents : W → Option (List ℕ)) (has_failed has_stall
   drawn-so d is = draws-so contents has_failed has_stalled (IsDrawingWith columns texts sizing config) (IsFaultWith columns texts sizing config) text_of d is (λ e fault. Undrawn d is fault)
 
 -- by a configuration that settings make
-module _ (settings : List Setting) (config : SpannedConfig) (told : IsConfiguredBy settings config) (columns : ℕ) (texts : List (List (List ℕ))) (sizing : Sizing) where
+module _ (settings : List Setting) (config : SpannedConfig) (told : HasSettingHistory settings config) (columns : ℕ) (texts : List (List (List ℕ))) (sizing : Sizing) where
   pub drawn-by-settings : (d : Drawing) → IsDrawingWith columns texts sizing config d → IsDrawingBy columns texts sizing settings d
   drawn-by-settings d is = (config, told, is)
 

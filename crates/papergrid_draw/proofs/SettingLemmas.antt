@@ -27,7 +27,8 @@ use Rattle.papergrid_tables.specs.Overrides.{OffsetCall, found_override, is_same
 use Rattle.papergrid_tables.specs.StoredBorders.{parts_of_borders}
 use Rattle.papergrid_values.specs.Compact.{all_sides, spaces}
 use Rattle.papergrid_maps.specs.Keys.{entity_eq}
-use Rattle.papergrid_maps.specs.MapCalls.{cell_override_value, global_value, standing_value}
+use Rattle.papergrid_maps.specs.ForProofs.MapSearch.{cell_override_value, global_value, standing_value}
+use Rattle.papergrid_maps.proofs.EffectiveCallLemmas.{search_of_history}
 use Rattle.papergrid_maps.specs.StoredMap.{HasMapHistory, Stored, stored_value}
 use Rattle.papergrid_maps.specs.declared.entity_map.MapCall.{MapCall}
 use Rattle.papergrid_maps.specs.declared.entity_map.MapCall.TheVariants.{Insert, Remove}
@@ -356,10 +357,11 @@ module _ {T : Type 0} (Q : T → Type 0) where
       (p : Position) → Q (stored_value stored p)
   value-found given calls stored history first all p =
       let newest = All-reverse IsMapCall calls all in
-      unwrap-holds _ _ (subst Holds (sym (history.cells p)) (cell-holds p.row p.col (reverse calls) newest))
-      (unwrap-holds _ _ (subst Holds (sym (history.columns p.col)) (standing-holds (Column p.col) (reverse calls) newest))
-      (unwrap-holds _ _ (subst Holds (sym (history.rows p.row)) (standing-holds (Row p.row) (reverse calls) newest))
-      (subst Q (sym history.global) (global-holds given (reverse calls) first newest))))
+      let found = search_of_history calls given stored history in
+      unwrap-holds _ _ (subst Holds (sym (found.cells p)) (cell-holds p.row p.col (reverse calls) newest))
+      (unwrap-holds _ _ (subst Holds (sym (found.columns p.col)) (standing-holds (Column p.col) (reverse calls) newest))
+      (unwrap-holds _ _ (subst Holds (sym (found.rows p.row)) (standing-holds (Row p.row) (reverse calls) newest))
+      (subst Q (sym found.global) (global-holds given (reverse calls) first newest))))
 
   pub newest-holds : (default : T) (values : List T) → Q default → All Q values → Q (newest_or default values)
   newest-holds default [] first all = first

@@ -12,7 +12,7 @@ use Rattle.papergrid_draw.specs.Faults.{IsDrawFault}
 use Rattle.papergrid_draw.specs.declared.error.DrawError.{DrawError}
 use Rattle.papergrid_draw.specs.Cells.{lines_at, text_lines}
 use Rattle.papergrid_walk.specs.Measures.{text_measure}
-use Rattle.papergrid_config.specs.Laws.{IsConfiguredBy}
+use Rattle.papergrid_config.specs.History.{HasSettingHistory}
 use Rattle.papergrid_layout.specs.Answers.{AreBothSizes, IsBothRefused}
 use Rattle.papergrid_config.specs.Grids.{spanned_grid}
 
@@ -41,8 +41,8 @@ module _ (columns : ℕ) (texts : List (List (List ℕ))) (sizing : Sizing) wher
   module _ (settings : List Setting) where
     -- the drawing by a configuration that the settings make
     abbrev pub IsDrawingBy : Drawing → Type 0
-    IsDrawingBy d = (config : SpannedConfig) × IsConfiguredBy settings config × IsDrawingWith config d
+    IsDrawingBy d = (config : SpannedConfig) × HasSettingHistory settings config × IsDrawingWith config d
 
     -- why there is none
     abbrev pub IsPictureFault : DrawError → Type 0
-    IsPictureFault e = (config : SpannedConfig) × IsConfiguredBy settings config × IsFaultWith config e
+    IsPictureFault e = (config : SpannedConfig) × HasSettingHistory settings config × IsFaultWith config e

@@ -18,7 +18,7 @@ use Rattle.papergrid_draw.specs.Faults.{AllHaveRoom}
 use Rattle.papergrid_draw.specs.declared.error.DrawError.{DrawError}
 use Rattle.papergrid_draw.specs.Cells.{lines_at, text_lines}
 use Rattle.papergrid_walk.specs.Measures.{text_measure}
-use Rattle.papergrid_config.specs.Laws.{IsConfiguredBy}
+use Rattle.papergrid_config.specs.History.{HasSettingHistory}
 use Rattle.papergrid_draw.specs.Sinks.{IsRefusal}
 use Rattle.papergrid_draw.proofs.PictureLemmas.{refusal-told, room-in, sizes-told, unless-also}
 use Rattle.papergrid_json.specs.Pictures.{AreNoSizesOf, AreSizesOf, IsDocumentDrawing, IsDocumentFault, IsDocumentTable, IsDocumentDrawingWith, IsDocumentFaultWith, Unsized}
@@ -115,7 +115,7 @@ module _ (document : Document) (sizing : Sizing) (config : SpannedConfig) where
   unsized (layout_errors.Memory e) are is = absurd is
 
   -- by a configuration that the settings make
-  module _ (told : IsConfiguredBy document.settings.items config) where
+  module _ (told : HasSettingHistory document.settings.items config) where
     pub drawn-by-settings : (d : Drawing) → IsDocumentDrawingWith document sizing config d → IsDocumentDrawing document sizing d
     drawn-by-settings d is = (config, told, is)
 

@@ -108,10 +108,10 @@ module _ (document : Document) (sizing : Sizing) where
 
   module _ (same : (x y : SpannedConfig) → HasSettingHistory document.settings.items x → HasSettingHistory document.settings.items y → HoldTheSameSettings x y) where
     pub one-document : (d e : Drawing) → IsDocumentDrawing document sizing d → IsDocumentDrawing document sizing e → lined d ≡ lined e
-    one-document d e a b = one-drawn a.0 b.0 (same a.0 b.0 a.1.told b.1.told) d e a.2 b.2
+    one-document d e a b = one-drawn a.0 b.0 (same a.0 b.0 a.1 b.1) d e a.2 b.2
 
     pub document-or-none : (d : Drawing) (e : DrawError) → IsDocumentDrawing document sizing d → IsDrawable d → IsRefusal e → IsDocumentFault document sizing e → ⊥
-    document-or-none d e a drawable named b = drawn-or-faulty a.0 b.0 (same a.0 b.0 a.1.told b.1.told) d e a.2 drawable named b.2
+    document-or-none d e a drawable named b = drawn-or-faulty a.0 b.0 (same a.0 b.0 a.1 b.1) d e a.2 drawable named b.2
 
     pub one-reason : (e f : DrawError) → IsRefusal e → IsRefusal f → IsDocumentFault document sizing e → IsDocumentFault document sizing f → e ≡ f
-    one-reason e f named other a b = one-fault a.0 b.0 (same a.0 b.0 a.1.told b.1.told) e f named other a.2 b.2
+    one-reason e f named other a b = one-fault a.0 b.0 (same a.0 b.0 a.1 b.1) e f named other a.2 b.2

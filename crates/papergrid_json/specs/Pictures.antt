@@ -13,7 +13,7 @@ use Rattle.papergrid_draw.specs.Faults.{IsDrawFault}
 use Rattle.papergrid_draw.specs.declared.error.DrawError.{DrawError}
 use Rattle.papergrid_draw.specs.Cells.{lines_at, text_lines}
 use Rattle.papergrid_walk.specs.Measures.{text_measure}
-use Rattle.papergrid_config.specs.Laws.{IsConfiguredBy}
+use Rattle.papergrid_config.specs.History.{HasSettingHistory}
 use Rattle.papergrid_json.specs.Documents.{document_texts}
 use Rattle.papergrid_json.specs.declared.document.Document.{Document}
 use Rattle.papergrid_json.specs.declared.document.OwnSizes.{OwnSizes}
@@ -62,8 +62,8 @@ module _ (document : Document) (sizing : Sizing) where
 
   -- its drawing by a configuration that its settings make
   abbrev pub IsDocumentDrawing : Drawing → Type 0
-  IsDocumentDrawing d = (config : SpannedConfig) × IsConfiguredBy document.settings.items config × IsDocumentDrawingWith config d
+  IsDocumentDrawing d = (config : SpannedConfig) × HasSettingHistory document.settings.items config × IsDocumentDrawingWith config d
 
   -- why it has none
   abbrev pub IsDocumentFault : DrawError → Type 0
-  IsDocumentFault e = (config : SpannedConfig) × IsConfiguredBy document.settings.items config × IsDocumentFaultWith config e
+  IsDocumentFault e = (config : SpannedConfig) × HasSettingHistory document.settings.items config × IsDocumentFaultWith config e

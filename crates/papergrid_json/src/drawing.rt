@@ -5,12 +5,11 @@ ghost use Rattle.papergrid_draw.specs.declared.room.Room.TheVariants.{Known};
 ghost use Rattle.papergrid_draw.specs.Sinks.{WritesPicture};
 ghost use Rattle.papergrid_draw.specs.Lined.{lined};
 ghost use Rattle.papergrid_layout.specs.Answers.{UnlessMemory};
-ghost use Rattle.papergrid_config.specs.Laws.{IsConfiguredBy};
+ghost use Rattle.papergrid_config.specs.History.{HasSettingHistory};
 ghost use Rattle.papergrid_json.specs.Documents.{AreInRange};
 ghost use Rattle.papergrid_json.specs.Pictures.{IsDocumentDrawing, IsDocumentFault, IsDocumentTable, IsDocumentDrawingWith, IsDocumentFaultWith};
 
 use crate::document::Document;
-use papergrid_config::laws::history_decides;
 use papergrid_config::{Setting, SpannedConfig};
 use papergrid_draw::{DrawError, Room, TextCells, draw_lines};
 use papergrid_layout::{LayoutError, Sizing, Table};
@@ -51,9 +50,8 @@ pub fn draw_document<W: Sink>(
 #[inline(always)]
 pub fn configuration(alloc: Global, settings: &Vec<Setting>) -> Result<SpannedConfig, AllocError>
     requires { AreInRange settings.now.items }
-    ensures { IfOk result (IsConfiguredBy settings.now.items) }
+    ensures { IfOk result (HasSettingHistory settings.now.items) }
 {
-    history_decides();
     let copies = settings.clone()?;
     let mut config = SpannedConfig::new(alloc);
     match config.apply_all(copies) {

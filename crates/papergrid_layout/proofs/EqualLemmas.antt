@@ -3,7 +3,7 @@ use Rattle.std.proofs.Common.{◌≡◌, ◌&&◌, ℕ, List, ap, refl, subst, t
 use Rattle.std.specs.Prelude.{◌↔◌, nat_eq}
 use Rattle.std.specs.Cmp.{nat_eq_equiv}
 use Rattle.std.specs.Cmp.Lexicographic.{pointwise}
-use Rattle.std.proofs.lemmas.Bool.{and_from, and_parts, eqb-true, false≢true}
+use Rattle.std.proofs.lemmas.Bool.{and_from, and_parts, eqb-true}
 use Rattle.std.proofs.lemmas.Slice.Eq.{bytes_eq-Decides}
 use Rattle.papergrid_values.specs.declared.position.Position.{Position}
 use Rattle.papergrid_values.specs.contracts.position.PositionPartialEq.TheImpl as position
@@ -65,14 +65,9 @@ itself-place_error TooLarge = refl
 
 equal-place_error : (x y : PlaceError) → place_error.ghosts.eq x y ≡ true → x ≡ y
 equal-place_error Hidden Hidden is = refl
-equal-place_error Hidden OutOfTable is = absurd (false≢true is)
-equal-place_error Hidden TooLarge is = absurd (false≢true is)
-equal-place_error OutOfTable Hidden is = absurd (false≢true is)
 equal-place_error OutOfTable OutOfTable is = refl
-equal-place_error OutOfTable TooLarge is = absurd (false≢true is)
-equal-place_error TooLarge Hidden is = absurd (false≢true is)
-equal-place_error TooLarge OutOfTable is = absurd (false≢true is)
 equal-place_error TooLarge TooLarge is = refl
+equal-place_error x y is = cc
 
 pub same-place_error : (x y : PlaceError) → (place_error.ghosts.eq x y ≡ true) ↔ (x ≡ y)
 same-place_error x y = (equal-place_error x y, λ e. subst (λ z. place_error.ghosts.eq x z ≡ true) e (itself-place_error x))
@@ -84,14 +79,9 @@ itself-layout_error (layout_error.Memory e) = refl
 
 equal-layout_error : (x y : LayoutError) → layout_error_eq.ghosts.eq x y ≡ true → x ≡ y
 equal-layout_error (layout_error.OutOfTable p) (layout_error.OutOfTable q) is = ap (λ r. layout_error.OutOfTable r) ((same-position p q).0 is)
-equal-layout_error (layout_error.OutOfTable p) layout_error.TooLarge is = absurd (false≢true is)
-equal-layout_error (layout_error.OutOfTable p) (layout_error.Memory e) is = absurd (false≢true is)
-equal-layout_error layout_error.TooLarge (layout_error.OutOfTable q) is = absurd (false≢true is)
 equal-layout_error layout_error.TooLarge layout_error.TooLarge is = refl
-equal-layout_error layout_error.TooLarge (layout_error.Memory e) is = absurd (false≢true is)
-equal-layout_error (layout_error.Memory d) (layout_error.OutOfTable q) is = absurd (false≢true is)
-equal-layout_error (layout_error.Memory d) layout_error.TooLarge is = absurd (false≢true is)
 equal-layout_error (layout_error.Memory d) (layout_error.Memory e) is = refl
+equal-layout_error x y is = cc
 
 pub same-layout_error : (x y : LayoutError) → (layout_error_eq.ghosts.eq x y ≡ true) ↔ (x ≡ y)
 same-layout_error x y = (equal-layout_error x y, λ e. subst (λ z. layout_error_eq.ghosts.eq x z ≡ true) e (itself-layout_error x))

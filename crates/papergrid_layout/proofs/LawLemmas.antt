@@ -1,12 +1,9 @@
 -- What the laws rest on.
-use Rattle.std.proofs.Common.{◌≡◌, ◌∙◌, ℕ, ◌+◌, Bool, true, false, List, [], ◌∷◌, ◌++◌, ◌&&◌, length, refl, ap, sym, inl, inr, nat_le}
-use Rattle.std.specs.Prelude.{All, filter, if◌then◌else◌, flat_map, reverse}
-use Rattle.std.proofs.lemmas.Bool.{cases_Bool, false≢true}
-use Rattle.std.proofs.lemmas.Grind.{flat_map-append}
-use Rattle.std.proofs.lemmas.List.{append_assoc, append-nil, length-map, reverse-append}
-use Rattle.std.proofs.lemmas.List.Concat.{flat_map-cons}
+use Rattle.std.proofs.Common.{◌≡◌, ◌∙◌, ℕ, ◌+◌, Bool, List, [], ◌∷◌, ◌++◌, ◌&&◌, length, refl, ap, subst, sym, inl, inr, nat_le}
+use Rattle.std.specs.Prelude.{◌↔◌, All, IsTrue, filter, flat_map, reverse}
+use Rattle.std.proofs.lemmas.Bool.{cases_Bool}
+use Rattle.std.proofs.lemmas.List.{append-nil, length-map, reverse-append}
 use Rattle.std.proofs.lemmas.List.Elements.{All-head, All-tail, filter-append}
-use Rattle.papergrid_values.specs.declared.direction.Direction.TheVariants.{Columns, Rows}
 use Rattle.papergrid_values.specs.declared.position.Position.{Position}
 use Rattle.papergrid_text.specs.LineCache.{answered_lines}
 use Rattle.papergrid_text.specs.Measured.{Measured}
@@ -15,28 +12,23 @@ use Rattle.papergrid_text.proofs.Widths.{all_answered}
 use Rattle.papergrid_values.specs.declared.direction.Direction.{Direction}
 use Rattle.papergrid_tracks.specs.Ranges.{demand_of}
 use Rattle.papergrid_values.specs.MapKeys.{position_eq}
-use Rattle.papergrid_tables.specs.BorderParts.{parts_from}
-use Rattle.papergrid_maps.specs.MapCalls.{effective_value}
-use Rattle.papergrid_maps.specs.StoredMap.{stored_value}
-use Rattle.papergrid_maps.specs.EffectiveSpan.{decides_span}
-use Rattle.papergrid_maps.specs.Spans as spans
-use Rattle.papergrid_maps.specs.Spans.{SetSpan, RemoveSpans, SpanCall, from_two, is_same_direction, is_visible, span_from}
-use Rattle.papergrid_values.proofs.KeyLemmas.{exact_position_eq}
-use Rattle.papergrid_tables.proofs.MadeTables.{same_borders}
-use Rattle.papergrid_maps.proofs.MadeTables.{span_history}
-use Rattle.papergrid_maps.proofs.StoredMapLemmas.{stored_effective}
-use Rattle.papergrid_config.specs.Parts.{character_calls, padding_calls, span_calls}
+use Rattle.papergrid_tables.specs.BorderParts.{HasLine, parts_from}
+use Rattle.papergrid_maps.specs.EffectiveCall.{IsEffective}
+use Rattle.papergrid_maps.specs.Spans.{IsEffectiveSpan, RemoveSpans, SetSpan, SpanCall, decides_span, is_same_direction}
+use Rattle.papergrid_maps.specs.ForProofs.SpanSearch.{effective_span, span_from}
+use Rattle.papergrid_maps.proofs.EffectiveSpanLemmas.{IsEffectiveSpan-only, effective_span-IsEffectiveSpan}
+use Rattle.papergrid_config.specs.Parts.{span_calls}
 use Rattle.papergrid_config.specs.History.{HasSettingHistory}
 use Rattle.papergrid_values.specs.Compact.{all_sides, spaces}
 use Rattle.papergrid_config.specs.declared.setting.Setting.{Setting}
 use Rattle.papergrid_config.specs.declared.spanned.SpannedConfig.{SpannedConfig}
 use Rattle.papergrid_walk.specs.Cells.{demands_by, demands_of, placed_from, placed_row, side}
 use Rattle.papergrid_maps.specs.Grids.{Grid}
-use Rattle.papergrid_config.specs.Grids.{spanned_grid}
+use Rattle.papergrid_config.specs.Grids.{IsGridOf, spanned_grid}
 use Rattle.papergrid_walk.specs.Measures.{cell_measure, line_measure}
 use Rattle.papergrid_walk.specs.ForProofs.Visits.{demands_by-append}
-use Rattle.papergrid_config.proofs.GridLemmas.{same_grid_by}
-use Rattle.papergrid_layout.specs.Laws.{AreReordered, IsNewText, TellTheSame}
+use Rattle.papergrid_config.proofs.SettingGridLemmas.{grid-decided, one-grid}
+use Rattle.papergrid_layout.specs.Laws.{AreReordered, IsNewText}
 
 -- ---- measures
 
@@ -72,18 +64,6 @@ new_text_measures text t is =
     let lines = ap (λ u. length (answered_lines (text t.text) u.width u.lines)) is ∙ ap length (all_answered (text t.text) (split_lines (text t.text)) refl) ∙ length-map (split_lines (text t.text)) with_width in
     (λ k. (width k, lines k))
 
--- ---- spans
-
--- what is read of two configurations that are told the same
-pub same_grid : (settings other : List Setting) → TellTheSame settings other → (x y : SpannedConfig) → HasSettingHistory settings x → HasSettingHistory other y → spanned_grid x ≡ spanned_grid y
-same_grid settings other same x y told also =
-    let calls = flat_map span_calls settings in
-    let spans_same = span_history calls x.spans told.spans ∙ sym (span_history calls y.spans (λ d p. also.spans d p ∙ ap from_two (sym (same.spans d p)))) in
-    let lines_same = same_borders x.characters y.characters (told.characters ∙ same.characters ∙ sym also.characters) in
-    let padding_same : (p : Position) → stored_value x.padding p ≡ stored_value y.padding p
-    = λ p. stored_effective _ _ _ told.padding p ∙ same.padding p ∙ sym (stored_effective _ _ _ also.padding p) in
-    same_grid_by spans_same padding_same lines_same
-
 -- ---- span calls anywhere in a list
 
 filter-reverse : (test : SpanCall → Bool) (calls : List SpanCall) → filter test (reverse calls) ≡ reverse (filter test calls)
@@ -109,12 +89,27 @@ span_from-decided d p (SetSpan e q n ∷ older) = elim (cases_Bool (is_same_dire
   | inr f ↦ rw f (span_from-decided d p older)
 ]
 
-pub reordered_tell : (settings other : List Setting) → AreReordered settings other → TellTheSame settings other
-reordered_tell settings other same = record {
-  spans = λ d p. by_decided d p (flat_map span_calls settings) ∙ ap (λ calls. span_from d p (reverse calls)) (same.spans d p) ∙ sym (by_decided d p (flat_map span_calls other));
-  padding = λ p. ap (λ calls. effective_value (all_sides (spaces 0)) calls p) same.padding;
-  characters = ap (λ calls. parts_from (reverse calls)) same.characters;
-}
-  where
-    by_decided : (d : Direction) (p : Position) (calls : List SpanCall) → spans.effective_span d p calls ≡ span_from d p (reverse (filter (decides_span d p) calls))
-    by_decided d p calls = sym (span_from-decided d p (reverse calls)) ∙ ap (span_from d p) (filter-reverse (decides_span d p) calls)
+module _ (settings other : List Setting) (same : AreReordered settings other) where
+  abbrev span_of : List Setting → Direction → Position → ℕ
+  span_of list d p = effective_span d p (flat_map span_calls list)
+
+  by_decided : (d : Direction) (p : Position) (calls : List SpanCall) → effective_span d p calls ≡ span_from d p (reverse (filter (decides_span d p) calls))
+  by_decided d p calls = sym (span_from-decided d p (reverse calls)) ∙ ap (span_from d p) (filter-reverse (decides_span d p) calls)
+
+  same_span : (d : Direction) (p : Position) → span_of settings d p ≡ span_of other d p
+  same_span d p =
+      by_decided d p (flat_map span_calls settings) ∙ ap (λ calls. span_from d p (reverse calls)) (same.spans d p) ∙ sym (by_decided d p (flat_map span_calls other))
+
+  pub reordered_grid : (grid : Grid) → IsGridOf settings grid → IsGridOf other grid
+  reordered_grid grid is = record {
+    spans = λ d p.
+        let calls = flat_map span_calls other in
+        subst (IsEffectiveSpan d p calls) (sym (IsEffectiveSpan-only d p (flat_map span_calls settings) (grid.span d p) (is.spans d p) ∙ same_span d p)) (effective_span-IsEffectiveSpan d p calls);
+    visible = is.visible;
+    padding = λ p sides decided. is.padding p sides (subst (λ calls. IsEffective calls (all_sides (spaces 0)) p sides) (sym same.padding) decided);
+    lines = λ d i count. subst (λ calls. IsTrue (grid.draws d count i) ↔ HasLine d (parts_from (reverse calls)) i count) same.characters (is.lines d i count);
+  }
+
+  pub same_grid : (x y : SpannedConfig) → HasSettingHistory settings x → HasSettingHistory other y → spanned_grid x ≡ spanned_grid y
+  same_grid x y told also =
+      one-grid other (spanned_grid x) (spanned_grid y) (reordered_grid (spanned_grid x) (grid-decided settings x told)) (grid-decided other y also)

@@ -1,6 +1,6 @@
 -- What is known of a table by what it keeps.
 use Rattle.std.proofs.Common.{◌≡◌, ◌∙◌, ℕ, ◌+◌, ◌-◌, ◌<◌, ◌≤◌, ◌⊎◌, ◌&&◌, Bool, true, cond, inl, inr, get_or, leb, refl, sym, ap, arith}
-use Rattle.std.specs.Prelude.{◌^◌, Option, None, Some, Result, Ok, Err, if◌then◌else◌, IfErr, IfOk}
+use Rattle.std.specs.Prelude.{◌^◌, ◌≢◌, Option, None, Some, Result, Ok, Err, if◌then◌else◌, IfErr, IfOk}
 use Rattle.std.specs.Option.{SomeIff, ok_or}
 use Rattle.std.proofs.lemmas.Bool.{and_parts, cases_lt, leb-true}
 use Rattle.std.proofs.lemmas.List.{get_or_default, get_or_past}
@@ -11,14 +11,14 @@ use Rattle.papergrid_values.specs.declared.position.Position.{Position}
 use Rattle.papergrid_tracks.specs.declared.error.LayoutError.{LayoutError}
 use Rattle.papergrid_tracks.specs.declared.error.LayoutError.TheVariants as layout_error
 use Rattle.papergrid_walk.specs.ForProofs.Shown.{anchor_in}
-use Rattle.papergrid_layout.specs.Places.{ArePlacesRefused, EndsWithin, IsFirstOver, TableView, line_offset, offset, place_at, total, total_along}
+use Rattle.papergrid_layout.specs.Places.{ArePlacesRefused, EndsWithin, IsFirstOver, IsPlaced, TableView, line_offset, offset, place_at, total, total_along}
 use Rattle.papergrid_layout.specs.Answers.{UnlessMemoryError}
-use Rattle.papergrid_layout.specs.Tables.{AreNotPlacedIn, IsPlacedIn, IsTotalTooLarge}
+use Rattle.papergrid_layout.specs.Tables.{IsTotalTooLarge}
 use Rattle.papergrid_layout.specs.ForProofs.Placing.{AreMarks}
 use Rattle.papergrid_layout.specs.declared.marks.Marks.{Marks}
 use Rattle.papergrid_layout.specs.declared.rect.Place.{Place}
 use Rattle.papergrid_layout.specs.declared.rect.PlaceError.{PlaceError}
-use Rattle.papergrid_layout.specs.declared.rect.PlaceError.TheVariants.{OutOfTable}
+use Rattle.papergrid_layout.specs.declared.rect.PlaceError.TheVariants.{OutOfTable, TooLarge}
 use Rattle.papergrid_layout.proofs.PlaceSums.{line-before}
 use Rattle.papergrid_layout.proofs.PlacingLemmas.{ends-within, has-found, is-out}
 use Rattle.papergrid_layout.proofs.PointLemmas.{none-beside, none-beyond}
@@ -65,30 +65,34 @@ both-fit table wide high Rows = high
 module _ (table : TableView) (fit : (direction : Direction) → total_along table direction < 2 ^ 64) where
   -- ---- places
 
+  -- what is found is not too large
+  abbrev pub IsPlacedIn : Position → Result Place PlaceError → Type 0
+  IsPlacedIn p answer = IsPlaced table p answer × (answer ≢ Err TooLarge)
+
   -- a visible position has the screen rectangle that was found for it, or overflows the table
   pub placed-in : (p : Position) (found : Option Place) → table.grid.shows p ≡ true →
       SomeIff found ((p.col + table.grid.span Columns p ≤ table.shape.1) × (p.row + table.grid.span Rows p ≤ table.shape.0)) (place_at table p) →
-      IsPlacedIn table p (ok_or found OutOfTable)
+      IsPlacedIn p (ok_or found OutOfTable)
   placed-in p None visible none = (is-out table p (anchor_in table.grid p) visible refl none, λ same. cc)
   placed-in p (Some place) visible found = (has-found table p (anchor_in table.grid p) place fit visible refl found, λ same. cc)
 
   -- which ends within the totals
-  pub placed-within : (p : Position) (answer : Result Place PlaceError) → IsPlacedIn table p answer → IfOk answer (EndsWithin table)
-  placed-within p (Ok place) is = ends-within table p place is.0
+  pub placed-within : (p : Position) (answer : Result Place PlaceError) → IsPlaced table p answer → IfOk answer (EndsWithin table)
+  placed-within p (Ok place) is = ends-within table p place is
   placed-within p (Err error) is = tt
 
   -- none is refused as too large
-  pub never-too-large : {A : Type 0} (answer : Result A LayoutError) → IfErr answer (ArePlacesRefused table) → IfErr answer (AreNotPlacedIn table)
-  never-too-large answer refused = IfErr-weaker answer (ArePlacesRefused table) (AreNotPlacedIn table) small refused
+  pub never-too-large : {A : Type 0} (answer : Result A LayoutError) → IfErr answer (ArePlacesRefused table) → IfErr answer (λ e. e ≢ layout_error.TooLarge)
+  never-too-large answer refused = IfErr-weaker answer (ArePlacesRefused table) (λ e. e ≢ layout_error.TooLarge) small refused
     where
       large : ((2 ^ 64 ≤ total_along table Columns) ⊎ (2 ^ 64 ≤ total_along table Rows)) → ⊥
       large (inl across) = let fits = fit Columns in omega (arith, across, fits)
       large (inr down) = let fits = fit Rows in omega (arith, down, fits)
 
-      small : (error : LayoutError) → ArePlacesRefused table error → AreNotPlacedIn table error
-      small (layout_error.OutOfTable p) is = (is, λ same. cc)
+      small : (error : LayoutError) → ArePlacesRefused table error → error ≢ layout_error.TooLarge
+      small (layout_error.OutOfTable p) is = λ same. cc
       small layout_error.TooLarge is = absurd (large is.1.refused.1)
-      small (layout_error.Memory e) is = (is, λ same. cc)
+      small (layout_error.Memory e) is = λ same. cc
 
   -- ---- points
 

@@ -20,8 +20,7 @@ use Rattle.papergrid_layout.specs.Laws.{HaveRoom}
 
 -- sizes that are chosen so have room
 pub room-of : (sizing : Sizing) (problem : Problem) (sizes : List ℕ) → AreSizesBy sizing problem sizes → HaveRoom problem sizes
-room-of ByShares problem sizes are = record { none_out = are.none_out; fits = are.fits; total = are.total }
-room-of Least problem sizes are = record { none_out = are.none_out; fits = are.least.fits; total = are.total }
+room-of sizing problem sizes are = record { none_out = are.none_out; fits = are.fits; total = are.total }
 
 -- no visible cell needs more than the total with its lines
 module _ {C : Type 0} (grid : Grid) (measure : C → ℕ × ℕ) (columns : ℕ) (cells : List (List C)) (direction : Direction) where

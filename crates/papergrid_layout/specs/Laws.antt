@@ -1,5 +1,5 @@
 -- What the laws are about.
-use Rattle.std.specs.Prelude.{◌≡◌, ◌<◌, ◌^◌, ℕ, List, [], None, filter, length, reverse, slice_index_or}
+use Rattle.std.specs.Prelude.{◌≡◌, ◌<◌, ◌^◌, ℕ, List, [], None, filter, length, slice_index_or}
 use Rattle.std.specs.List.{flat_map}
 use Rattle.papergrid_values.specs.declared.position.Position.{Position}
 use Rattle.papergrid_text.specs.Measured.{Measured, measured_text}
@@ -7,10 +7,7 @@ use Rattle.papergrid_values.specs.declared.direction.Direction.{Direction}
 use Rattle.papergrid_tracks.specs.Fits.{Fits}
 use Rattle.papergrid_tracks.specs.Problem.{Problem, total_of}
 use Rattle.papergrid_tracks.specs.Ranges.{first_out}
-use Rattle.papergrid_maps.specs.Spans as spans
-use Rattle.papergrid_maps.specs.EffectiveSpan.{decides_span}
-use Rattle.papergrid_config.specs.Effective as effective
-use Rattle.papergrid_tables.specs.BorderParts.{parts_from}
+use Rattle.papergrid_maps.specs.Spans.{decides_span}
 use Rattle.papergrid_config.specs.Parts.{character_calls, padding_calls, span_calls}
 use Rattle.papergrid_config.specs.declared.setting.Setting.{Setting}
 
@@ -31,13 +28,6 @@ pub record HaveRoom (problem : Problem) (sizes : List ℕ) : Type 0 where
   pub none_out : first_out problem.count problem.demands ≡ None
   pub fits : Fits problem sizes
   pub total : total_of problem sizes < 2 ^ 64
-
--- the same spans, paddings and lines
-pub record TellTheSame (settings other : List Setting) : Type 0 where
-  pub spans : (direction : Direction) (p : Position) →
-      spans.effective_span direction p (flat_map span_calls settings) ≡ spans.effective_span direction p (flat_map span_calls other)
-  pub padding : (p : Position) → effective.padding settings p ≡ effective.padding other p
-  pub characters : parts_from (reverse (flat_map character_calls settings)) ≡ parts_from (reverse (flat_map character_calls other))
 
 -- in both lists the same calls decide the span of each cell, in the same order, wherever those of other cells stand. The
 -- calls of paddings are the same, and so are those of lines

@@ -1,17 +1,13 @@
 -- A table as one value, and how it is made.
-use Rattle.std.specs.Prelude.{◌≡◌, ◌≢◌, ◌^◌, ◌≤◌, ◌<◌, ◌⊎◌, ◌&&◌, nat_le, if◌then◌else◌, ℕ, List, length, Option, None, Some, Result, Ok, Err}
+use Rattle.std.specs.Prelude.{◌≡◌, ◌^◌, ◌≤◌, ◌<◌, ◌⊎◌, ◌&&◌, nat_le, if◌then◌else◌, ℕ, List, length, Option, None, Some, Result, Ok, Err}
 use Rattle.papergrid_values.specs.declared.direction.Direction.{Direction}
 use Rattle.papergrid_values.specs.declared.direction.Direction.TheVariants.{Columns, Rows}
-use Rattle.papergrid_values.specs.declared.position.Position.{Position}
 use Rattle.papergrid_tracks.specs.declared.error.LayoutError.{LayoutError}
 use Rattle.papergrid_tracks.specs.declared.error.LayoutError.TheVariants as layout_error
 use Rattle.papergrid_config.specs.declared.spanned.SpannedConfig.{SpannedConfig}
 use Rattle.papergrid_config.specs.Grids.{spanned_grid}
 use Rattle.papergrid_layout.specs.Answers.{AreBothSizes, IsBothRefused, UnlessMemoryError}
-use Rattle.papergrid_layout.specs.Places.{ArePlacesRefused, IsPlaced, TableView, line_offset, sized_table, total_along, track_count, track_line, track_size}
-use Rattle.papergrid_layout.specs.declared.rect.Place.{Place}
-use Rattle.papergrid_layout.specs.declared.rect.PlaceError.{PlaceError}
-use Rattle.papergrid_layout.specs.declared.rect.PlaceError.TheVariants.{TooLarge}
+use Rattle.papergrid_layout.specs.Places.{TableView, line_offset, sized_table, total_along, track_count, track_line, track_size}
 use Rattle.papergrid_tracks.specs.declared.sizing.Sizing.{Sizing}
 
 -- a configuration, with the width of each column and the height of each row
@@ -38,14 +34,6 @@ module _ {C : Type 0} (config : SpannedConfig) (measure : C → ℕ × ℕ) (col
   abbrev pub IsTableOf : Sizing → Result TableParts LayoutError → Type 0
   IsTableOf sizing (Ok table) = (table.config ≡ config) × AreBothSizes (spanned_grid config) measure columns cells sizing table.widths table.heights
   IsTableOf sizing (Err e) = IsBothRefused (spanned_grid config) measure columns cells sizing e
-
--- the cell at a position has this screen rectangle; else it is hidden, else it overflows the table
-abbrev pub IsPlacedIn : TableView → Position → Result Place PlaceError → Type 0
-IsPlacedIn table p answer = IsPlaced table p answer × (answer ≢ Err TooLarge)
-
--- the first visible cell without a screen rectangle overflows the table
-abbrev pub AreNotPlacedIn : TableView → LayoutError → Type 0
-AreNotPlacedIn table e = ArePlacesRefused table e × (e ≢ layout_error.TooLarge)
 
 -- where a line stands: that before a track, or at their count after the last, if it is drawn
 abbrev pub line_position : TableView → Direction → ℕ → Option ℕ

@@ -149,16 +149,16 @@ where
     ghost use Rattle.papergrid_maps.specs.Grids.{compact_grid};
     ghost use Rattle.papergrid_text.specs.Records.{TellsRows};
     ghost use Rattle.papergrid_walk.specs.Measures.{std_line_measure};
-    ghost use Rattle.papergrid_tracks.specs.Answers.{AreSizes};
     ghost use Rattle.papergrid_walk.specs.Cells.{problem_of};
     ghost use Rattle.papergrid_layout.specs.Answers.{UnlessMemoryError};
-    ghost use Rattle.papergrid_tracks.specs.Sizings.{IsRefused};
+    ghost use Rattle.papergrid_tracks.specs.Sizings.{AreSizesBy, IsRefused};
     ghost use Rattle.papergrid_tracks.specs.declared.sizing.Sizing.TheVariants as sizings;
 
     ghost accepts = { R.is_lawful };
 
     ghost is_estimate = { λ d records config. TellsRows R.tells records (λ cells.
-        AreSizes (problem_of (compact_grid config) (std_line_measure R.Iter.Cell.text)
+        AreSizesBy sizings.ByShares
+        (problem_of (compact_grid config) (std_line_measure R.Iter.Cell.text)
         (R.columns records) cells Columns) d.widths) };
 
     ghost is_refused = { λ _ records config error. UnlessMemoryError error

@@ -7,23 +7,24 @@ ghost use Rattle.papergrid_values.specs.Positions.{IsBefore};
 ghost use Rattle.papergrid_text.specs.Measured.{Measured};
 ghost use Rattle.papergrid_values.specs.declared.direction.Direction.{Direction};
 ghost use Rattle.papergrid_values.specs.declared.direction.Direction.TheVariants.{Columns, Rows};
-ghost use Rattle.papergrid_tracks.specs.Answers.{AreSizes, IsAccepted};
+ghost use Rattle.papergrid_tracks.specs.Answers.{IsAccepted};
+ghost use Rattle.papergrid_tracks.specs.declared.sizing.Sizing.TheVariants as sizings;
 ghost use Rattle.papergrid_tracks.specs.Fits.{Fits, IsLeast};
 ghost use Rattle.papergrid_tracks.specs.Problem.{Problem, total_of};
 ghost use Rattle.papergrid_tracks.specs.Ranges.{IsLaminar, first_out};
 ghost use Rattle.papergrid_tracks.specs.Sizes.{sizes_of};
-ghost use Rattle.papergrid_tracks.specs.LeastAnswers.{AreLeastSizes, AreCriticalPath};
+ghost use Rattle.papergrid_tracks.specs.LeastAnswers.{AreCriticalPath};
 ghost use Rattle.papergrid_config.specs.History.{HasSettingHistory};
 ghost use Rattle.papergrid_config.specs.declared.setting.Setting.{Setting};
 ghost use Rattle.papergrid_config.specs.declared.spanned.SpannedConfig.{SpannedConfig};
 ghost use Rattle.papergrid_walk.specs.Cells.{demand_by, demands_of, positioned_cells, problem_of, problem_with, visible_cells};
 ghost use Rattle.papergrid_maps.specs.Grids.{Grid};
-ghost use Rattle.papergrid_config.specs.Grids.{spanned_grid};
+ghost use Rattle.papergrid_config.specs.Grids.{IsGridOf, spanned_grid};
 ghost use Rattle.papergrid_walk.specs.Measures.{cell_measure, line_measure};
 ghost use Rattle.papergrid_layout.specs.Answers.{AreBothSizes, HoldAlong, first_out_of_table};
-ghost use Rattle.papergrid_tracks.specs.Sizings.{IsTotal};
+ghost use Rattle.papergrid_tracks.specs.Sizings.{AreSizesBy, IsTotal};
 ghost use Rattle.papergrid_tracks.specs.declared.sizing.Sizing.{Sizing};
-ghost use Rattle.papergrid_layout.specs.Laws.{AreReordered, HaveRoom, IsCellAt, IsNewText, TellTheSame};
+ghost use Rattle.papergrid_layout.specs.Laws.{AreReordered, HaveRoom, IsCellAt, IsNewText};
 ghost use Rattle.papergrid_layout.specs.Places.{DoNotMeet, HasRoomAtPlace, HaveNoneInCommon, IsInsideTable, IsPlaced, StandsOver, TableView, place_at, sized_table, total_along};
 ghost use Rattle.papergrid_tracks.specs.declared.error.LayoutError.{LayoutError};
 ghost use Rattle.papergrid_layout.specs.declared.rect.Place.{Place};
@@ -58,7 +59,7 @@ pub fn cells_by_position<C>()
 {}
 
 /// Sizes do not depend on the order in which spans of different cells were set, anywhere in a list,
-/// since what is read of a configuration depends only on what the settings make.
+/// since the settings decide the same grid.
 pub fn order_of_spans<C>()
     ensures sizes { (settings other : List Setting) → AreReordered settings other →
         (x y : SpannedConfig) → HasSettingHistory settings x → HasSettingHistory other y →
@@ -66,10 +67,7 @@ pub fn order_of_spans<C>()
         sizes_of (problem_with (spanned_grid x) measure direction n rows)
         ≡ sizes_of (problem_with (spanned_grid y) measure direction n rows) }
     ensures reordered { (settings other : List Setting) → AreReordered settings other →
-        TellTheSame settings other }
-    ensures read { (settings other : List Setting) → TellTheSame settings other →
-        (x y : SpannedConfig) → HasSettingHistory settings x → HasSettingHistory other y →
-        spanned_grid x ≡ spanned_grid y }
+        (grid : Grid) → IsGridOf settings grid → IsGridOf other grid }
 {}
 
 /// What lent cells ask for is what the cells held ask for, whether each is measured through the loan
@@ -112,24 +110,17 @@ pub fn total_covers_cells<C>()
         ≤ total) (visible_cells grid rows) }
 {}
 
-/// Where each span is at least 1, as those of a configuration are, the least sizes along a
-/// direction are those by shares wherever these are least, and so where ranges are nested or
-/// disjoint. What certifies least sizes is a certificate that the checkers accept.
-pub fn least_as_by_shares<C>()
-    ensures same { (grid : Grid) (measure : C → ℕ × ℕ)
-        (columns : ℕ) (rows : List (List C)) (direction : Direction) →
-        ((p : Position) → 1 ≤ grid.span direction p) → (sizes least : List ℕ) →
-        AreSizes (problem_of grid measure columns rows direction) sizes →
-        AreLeastSizes (problem_of grid measure columns rows direction) least →
-        IsLeast (problem_of grid measure columns rows direction) sizes → least ≡ sizes }
-    ensures laminar { (grid : Grid) (measure : C → ℕ × ℕ)
-        (columns : ℕ) (rows : List (List C)) (direction : Direction) →
-        ((p : Position) → 1 ≤ grid.span direction p) → (sizes least : List ℕ) →
-        AreSizes (problem_of grid measure columns rows direction) sizes →
-        AreLeastSizes (problem_of grid measure columns rows direction) least →
-        IsLaminar (demands_of direction grid measure rows) → least ≡ sizes }
+/// The least sizes along a direction are those by shares wherever these are least, and so where
+/// ranges are nested or disjoint. What certifies least sizes is a certificate that the checkers accept.
+pub fn least_as_by_shares()
+    ensures same { (problem : Problem) (sizes least : List ℕ) →
+        AreSizesBy sizings.ByShares problem sizes → AreSizesBy sizings.Least problem least →
+        IsLeast problem sizes → least ≡ sizes }
+    ensures laminar { (problem : Problem) (sizes least : List ℕ) →
+        AreSizesBy sizings.ByShares problem sizes → AreSizesBy sizings.Least problem least →
+        IsLaminar problem.demands → least ≡ sizes }
     ensures accepted { (problem : Problem) (sizes : List ℕ) (positions : List Position) →
-        AreLeastSizes problem sizes → AreCriticalPath problem positions →
+        AreSizesBy sizings.Least problem sizes → AreCriticalPath problem positions →
         IsAccepted problem sizes positions }
 {}
 

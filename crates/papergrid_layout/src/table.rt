@@ -1,6 +1,6 @@
 //! A table as one value: a configuration with the sizes of its columns and rows.
 
-ghost use Rattle.std.specs.Prelude.{◌≡◌, ◌+◌, ◌<◌, ◌≤◌, ◌↔◌, ◌⊎◌, ◌^◌, ◌&&◌, [], All, IfErr, IfOk, IsTrue, MatchOption, MatchResult, None, length, nat_le};
+ghost use Rattle.std.specs.Prelude.{◌≡◌, ◌≢◌, ◌+◌, ◌<◌, ◌≤◌, ◌↔◌, ◌⊎◌, ◌^◌, ◌&&◌, [], All, Err, IfErr, IfOk, IsTrue, MatchOption, MatchResult, None, length, nat_le};
 ghost use Rattle.std.specs.Option.{SomeIff};
 ghost use Rattle.std.specs.Result.{IsOkAnd};
 ghost use Rattle.papergrid_values.specs.declared.direction.Direction.{Direction};
@@ -8,8 +8,9 @@ ghost use Rattle.papergrid_values.specs.declared.direction.Direction.TheVariants
 ghost use Rattle.papergrid_walk.specs.Measures.{line_measure};
 ghost use Rattle.papergrid_tracks.specs.declared.error.LayoutError.TheVariants.{TooLarge};
 ghost use Rattle.papergrid_layout.specs.Answers.{UnlessMemory, UnlessMemoryError};
-ghost use Rattle.papergrid_layout.specs.Places.{EndsWithin, HaveAllPlaces, IsFirstOver, IsTrackAt, StandsOver, place_at, sized_table, total_along, track_count, track_line, track_size};
-ghost use Rattle.papergrid_layout.specs.Tables.{AreNotPlacedIn, IsPlacedIn, IsTable, IsTableOf, line_position, view_of};
+ghost use Rattle.papergrid_layout.specs.declared.rect.PlaceError.{PlaceError};
+ghost use Rattle.papergrid_layout.specs.Places.{ArePlacesRefused, EndsWithin, HaveAllPlaces, IsFirstOver, IsPlaced, IsTrackAt, StandsOver, place_at, sized_table, total_along, track_count, track_line, track_size};
+ghost use Rattle.papergrid_layout.specs.Tables.{IsTable, IsTableOf, line_position, view_of};
 ghost use Rattle.papergrid_layout.specs.ForProofs.Placing.{AreMarks};
 ghost use Rattle.papergrid_layout.specs.ForProofs.Points.{LiesInEach};
 ghost use Rattle.papergrid_layout.specs.ForProofs.Tables.{IsMeasuredAlong};
@@ -200,7 +201,8 @@ impl<'a> Table<'a> {
     /// `Hidden` where the position is hidden, else `OutOfTable` where its range ends past the last column
     /// or the last row, and no other one.
     pub fn place(&self, position: Position) -> Result<Place, PlaceError>
-        ensures exact { IsPlacedIn (view_of self.now) position result }
+        ensures exact { IsPlaced (view_of self.now) position result }
+        ensures never_large { result ≢ Err PlaceError.TooLarge }
         ensures within { IfOk result (EndsWithin (view_of self.now)) }
     {
         if !self.config.is_visible(position) {
@@ -217,7 +219,8 @@ impl<'a> Table<'a> {
     /// answer, but for a table without rows or columns: that is never refused.
     pub fn places(&self, alloc: Global) -> Result<Vec<(Position, Place)>, LayoutError>
         ensures ok { IfOk result (λ places. HaveAllPlaces (view_of self.now) places.items) }
-        ensures err { IfErr result (AreNotPlacedIn (view_of self.now)) }
+        ensures err { IfErr result (ArePlacesRefused (view_of self.now)) }
+        ensures never_large { IfErr result (λ e. e ≢ TooLarge) }
         ensures within { IfOk result (λ places.
             All (λ x. EndsWithin (view_of self.now) x.1) places.items) }
         ensures empty { (self.now.heights ≡ []) ⊎ (self.now.widths ≡ []) →

@@ -8,8 +8,9 @@ use Rattle.papergrid_values.specs.declared.direction.Direction.{Direction}
 use Rattle.papergrid_values.specs.declared.direction.Direction.TheVariants.{Columns, Rows}
 use Rattle.papergrid_values.specs.declared.position.Position.{Position}
 use Rattle.papergrid_values.proofs.KeyLemmas.{exact_position_eq, position_equiv}
-use Rattle.papergrid_maps.specs.EffectiveSpan.{ByNone, ByRemoval, BySet, IsEffectiveSpan, NoneDecides, decides_span}
-use Rattle.papergrid_maps.specs.Spans.{RemoveSpans, SetSpan, SpanCall, effective_span, is_same_direction, span_from}
+use Rattle.papergrid_maps.specs.Spans.{ByNone, ByRemoval, BySet, HasSpanHistory, IsEffectiveSpan, NoneDecides, RemoveSpans, SetSpan, SpanCall, Spans, decides_span, from_two, is_same_direction, spans_along}
+use Rattle.papergrid_maps.specs.ForProofs.SpanSearch.{effective_span, span_from}
+use Rattle.std.specs.FinMap.{get}
 
 same_itself : (d : Direction) → is_same_direction d d ≡ true
 same_itself Columns = refl
@@ -102,3 +103,11 @@ module _ (d : Direction) (p : Position) where
 
   pub effective_span-IsEffectiveSpan : (calls : List SpanCall) → IsEffectiveSpan d p calls (effective_span d p calls)
   effective_span-IsEffectiveSpan calls = subst (λ cs. IsEffectiveSpan d p cs (span_from d p (reverse calls))) (reverse-reverse calls) (of_newest (reverse calls))
+
+-- ---- what is stored, by the search
+
+pub spans_of_history : (calls : List SpanCall) (stored : Spans) → HasSpanHistory calls stored → (d : Direction) (p : Position) → get (spans_along d stored) p ≡ from_two (effective_span d p calls)
+spans_of_history calls stored told d p = told d p (effective_span d p calls) (effective_span-IsEffectiveSpan d p calls)
+
+pub history_of_spans : (calls : List SpanCall) (stored : Spans) → ((d : Direction) (p : Position) → get (spans_along d stored) p ≡ from_two (effective_span d p calls)) → HasSpanHistory calls stored
+history_of_spans calls stored is d p n effective = is d p ∙ ap from_two (sym (IsEffectiveSpan-only d p calls n effective))

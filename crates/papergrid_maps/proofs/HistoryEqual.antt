@@ -13,16 +13,19 @@ use Rattle.papergrid_maps.specs.ForProofs.SpanEq.{spans_eq}
 use Rattle.papergrid_maps.specs.Spans as spans
 use Rattle.papergrid_maps.specs.Spans.{SpanCall, Spans}
 use Rattle.papergrid_maps.specs.declared.entity_map.MapCall.{MapCall}
+use Rattle.papergrid_maps.proofs.EffectiveCallLemmas.{search_of_history}
 use Rattle.papergrid_maps.proofs.MadeTables.{span_history}
 
 -- what a map holds is decided by the calls
-history_same : {T : Type 0} (given : T) (calls : List (MapCall T)) (m n : Stored T) → maps.HasMapHistory given calls m → maps.HasMapHistory given calls n → m ≡ n
-history_same given calls m n history_m history_n = λ i. record {
-  global = (history_m.global ∙ sym history_n.global) i;
-  columns = same_map nat_cmp_total nat_cmp-IsAntisymmetric m.columns n.columns (λ c. history_m.columns c ∙ sym (history_n.columns c)) i;
-  rows = same_map nat_cmp_total nat_cmp-IsAntisymmetric m.rows n.rows (λ r. history_m.rows r ∙ sym (history_n.rows r)) i;
-  cells = same_map position_total exact_positions m.cells n.cells (λ p. history_m.cells p ∙ sym (history_n.cells p)) i;
-}
+pub history_same : {T : Type 0} (given : T) (calls : List (MapCall T)) (m n : Stored T) → maps.HasMapHistory given calls m → maps.HasMapHistory given calls n → m ≡ n
+history_same given calls m n history_m history_n =
+    let of_m = search_of_history calls given m history_m in
+    let of_n = search_of_history calls given n history_n in λ i. record {
+      global = (of_m.global ∙ sym of_n.global) i;
+      columns = same_map nat_cmp_total nat_cmp-IsAntisymmetric m.columns n.columns (λ c. of_m.columns c ∙ sym (of_n.columns c)) i;
+      rows = same_map nat_cmp_total nat_cmp-IsAntisymmetric m.rows n.rows (λ r. of_m.rows r ∙ sym (of_n.rows r)) i;
+      cells = same_map position_total exact_positions m.cells n.cells (λ p. of_m.cells p ∙ sym (of_n.cells p)) i;
+    }
 
 pub map_histories_equal : {T : Type 0} (eq : T → T → Bool) → ((x : T) → eq x x ≡ true)
     → (given : T) (calls : List (MapCall T)) (m n : Stored T) → maps.HasMapHistory given calls m → maps.HasMapHistory given calls n → stored_eq eq m n ≡ true

@@ -4,6 +4,7 @@ pub mod Applied
 pub mod BothStored
 pub mod CoverLemmas
 pub mod HiddenLemmas
+pub mod EffectiveCallLemmas
 pub mod EffectiveSpanLemmas
 pub mod StoredAgree
 pub mod IndexCopies

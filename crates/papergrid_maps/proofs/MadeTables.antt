@@ -13,7 +13,10 @@ use Rattle.papergrid_maps.specs.ForProofs.Made.{named_anchors, spans_made}
 use Rattle.papergrid_maps.specs.Spans as spans
 use Rattle.papergrid_values.specs.declared.direction.Direction.{Direction}
 use Rattle.papergrid_values.specs.declared.direction.Direction.TheVariants.{Columns, Rows}
-use Rattle.papergrid_maps.specs.Spans.{RemoveSpans, SetSpan, SpanCall, Spans, effective_span, from_two, is_same_direction, span_from}
+use Rattle.papergrid_maps.specs.Spans.{RemoveSpans, SetSpan, SpanCall, Spans, from_two, is_same_direction, spans_along}
+use Rattle.papergrid_maps.specs.ForProofs.SpanSearch.{effective_span, span_from}
+use Rattle.papergrid_maps.proofs.EffectiveSpanLemmas.{history_of_spans, spans_of_history}
+use Rattle.std.specs.FinMap.{get}
 
 -- an anchor whose span is not 1 is named
 anchor_named : (d : Direction) (q : Position) (older : List SpanCall) → is_some (from_two (span_from d q older)) ≡ true → list_any (eq_by_cmp position_cmp q) (flat_map named_anchors older) ≡ true
@@ -35,12 +38,18 @@ anchor_named d q (SetSpan e p n ∷ older) h =
     never_both true false = refl
     never_both false b = refl
 
+made_spans : (calls : List SpanCall) (d : Direction) (p : Position) → get (spans_along d (spans_made calls)) p ≡ from_two (effective_span d p calls)
+made_spans calls Columns p = tabulates position_total exact_position (λ p. from_two (effective_span Columns p calls)) (flat_map named_anchors (reverse calls)) (λ q. anchor_named Columns q (reverse calls)) p
+made_spans calls Rows p = tabulates position_total exact_position (λ p. from_two (effective_span Rows p calls)) (flat_map named_anchors (reverse calls)) (λ q. anchor_named Rows q (reverse calls)) p
+
 pub spans_made_history : (calls : List SpanCall) → spans.HasSpanHistory calls (spans_made calls)
-spans_made_history calls Columns p = tabulates position_total exact_position (λ p. from_two (effective_span Columns p calls)) (flat_map named_anchors (reverse calls)) (λ q. anchor_named Columns q (reverse calls)) p
-spans_made_history calls Rows p = tabulates position_total exact_position (λ p. from_two (effective_span Rows p calls)) (flat_map named_anchors (reverse calls)) (λ q. anchor_named Rows q (reverse calls)) p
+spans_made_history calls = history_of_spans calls (spans_made calls) (made_spans calls)
 
 pub span_history : (calls : List SpanCall) (stored : Spans) → spans.HasSpanHistory calls stored → stored ≡ spans_made calls
-span_history calls stored told = λ i. record {
-  columns = same_map position_total exact_positions stored.columns (spans_made calls).columns (λ p. told Columns p ∙ sym (spans_made_history calls Columns p)) i;
-  rows = same_map position_total exact_positions stored.rows (spans_made calls).rows (λ p. told Rows p ∙ sym (spans_made_history calls Rows p)) i;
-}
+span_history calls stored told =
+    let same : (d : Direction) (p : Position) → get (spans_along d stored) p ≡ get (spans_along d (spans_made calls)) p
+    = λ d p. spans_of_history calls stored told d p ∙ sym (made_spans calls d p) in
+    λ i. record {
+      columns = same_map position_total exact_positions stored.columns (spans_made calls).columns (same Columns) i;
+      rows = same_map position_total exact_positions stored.rows (spans_made calls).rows (same Rows) i;
+    }

@@ -5,13 +5,14 @@ use Rattle.std.proofs.Common.{append_assoc}
 use Rattle.std.proofs.lemmas.List.{reverse-append}
 use Rattle.std.specs.FinMap.{get}
 use Rattle.papergrid_maps.specs.Keys.{entity_eq}
-use Rattle.papergrid_maps.specs.MapCalls.{global_value, cell_override_value, standing_value}
+use Rattle.papergrid_maps.specs.ForProofs.MapSearch.{cell_override_value, global_value, standing_value}
 use Rattle.papergrid_maps.specs.StoredMap.{Stored, HasMapHistory, AppendsCalls}
 use Rattle.papergrid_values.specs.declared.position.Position.{Position}
 use Rattle.papergrid_values.specs.declared.entity.Entity.{Entity}
 use Rattle.papergrid_values.specs.declared.entity.Entity.TheVariants.{Global, Column, Row, Cell}
 use Rattle.papergrid_maps.specs.declared.entity_map.MapCall.{MapCall}
 use Rattle.papergrid_maps.specs.declared.entity_map.MapCall.TheVariants.{Insert, Remove}
+use Rattle.papergrid_maps.proofs.EffectiveCallLemmas.{history_of_search, search_of_history}
 
 module _ {T : Type 0} where
   -- what a call makes of the global value, of a column's or a row's, and of a cell's whose column and row have these values
@@ -63,14 +64,15 @@ module _ {T : Type 0} where
   -- a map that a call changes part by part has the calls so far and then that one as its history
   pub history_step : (old new : Stored T) (call : MapCall T) → IsStep old new call → AppendsCalls old new (call ∷ [])
   history_step old new call step given calls told =
+      let holds = search_of_history calls given old told in
       let after = next given (reverse calls) call in
-      let same = sym (newest calls call) in record {
-        global = step.global ∙ ap (global_after call) told.global ∙ after.0 ∙ ap (global_value given) same;
-        columns = λ c. step.columns c ∙ ap (value_after call (Column c)) (told.columns c) ∙ after.1 (Column c) ∙ ap (standing_value (Column c)) same;
-        rows = λ r. step.rows r ∙ ap (value_after call (Row r)) (told.rows r) ∙ after.1 (Row r) ∙ ap (standing_value (Row r)) same;
-        cells = λ p. step.cells p ∙ (λ i. cell_after call p (told.columns p.col i) (told.rows p.row i) (told.cells p i)) ∙ after.2 p
+      let same = sym (newest calls call) in history_of_search (calls ++ call ∷ []) given new (record {
+        global = step.global ∙ ap (global_after call) holds.global ∙ after.0 ∙ ap (global_value given) same;
+        columns = λ c. step.columns c ∙ ap (value_after call (Column c)) (holds.columns c) ∙ after.1 (Column c) ∙ ap (standing_value (Column c)) same;
+        rows = λ r. step.rows r ∙ ap (value_after call (Row r)) (holds.rows r) ∙ after.1 (Row r) ∙ ap (standing_value (Row r)) same;
+        cells = λ p. step.cells p ∙ (λ i. cell_after call p (holds.columns p.col i) (holds.rows p.row i) (holds.cells p i)) ∙ after.2 p
             ∙ ap (cell_override_value p.row p.col) same;
-      }
+      })
 
   pub history_from_step : {old stored new : Stored T} {call history_call : MapCall T} → stored ≡ old → history_call ≡ call → IsStep stored new call → AppendsCalls old new (history_call ∷ [])
   history_from_step {old = old} {stored = stored} {new = new} {call = call} {history_call = history_call} is same step =

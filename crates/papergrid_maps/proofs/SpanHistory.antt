@@ -13,7 +13,9 @@ use Rattle.papergrid_values.specs.MapKeys.{position_cmp, position_eq}
 use Rattle.papergrid_values.specs.declared.direction.Direction.{Direction}
 use Rattle.papergrid_values.specs.declared.direction.Direction.TheVariants.{Columns, Rows}
 use Rattle.papergrid_values.specs.History.{AppendsHistory}
-use Rattle.papergrid_maps.specs.Spans.{Spans, SpanCall, RemoveSpans, HasSpan, HasSpanHistory, spans_along, span_from, from_two}
+use Rattle.papergrid_maps.specs.Spans.{Spans, SpanCall, RemoveSpans, SetSpan, HasSpan, HasSpanHistory, spans_along, from_two}
+use Rattle.papergrid_maps.specs.ForProofs.SpanSearch.{span_from}
+use Rattle.papergrid_maps.proofs.EffectiveSpanLemmas.{history_of_spans, spans_of_history}
 use Rattle.papergrid_maps.specs.ForProofs.SpanIndex.{AreFromTwo, stored_along, key_of, span_set}
 use Rattle.papergrid_values.proofs.EntryLemmas.{none_is_not_some}
 use Rattle.papergrid_values.proofs.KeyLemmas.{position_equiv, position_ties, position_total}
@@ -24,8 +26,11 @@ newest : (calls : List SpanCall) (call : SpanCall) → reverse (calls ++ call �
 newest calls call = reverse-append calls (call ∷ [])
 
 pub new_history : HasSpanHistory [] (record { columns = empty; rows = empty })
-new_history Columns p = get-empty position_cmp p
-new_history Rows p = get-empty position_cmp p
+new_history = history_of_spans [] (record { columns = empty; rows = empty }) nothing
+  where
+    nothing : (d : Direction) (p : Position) → get (spans_along d (record { columns = empty; rows = empty })) p ≡ None
+    nothing Columns p = get-empty position_cmp p
+    nothing Rows p = get-empty position_cmp p
 
 same_some : (m n : ℕ) → ◌≡◌ {A = Option ℕ} (Some m) (Some n) → m ≡ n
 same_some m n e = ap (λ o. unwrap_or o m) e
@@ -34,8 +39,8 @@ same_some m n e = ap (λ o. unwrap_or o m) e
 history_step : (old new : Spans) (call : SpanCall)
     → ((d : Direction) (p : Position) (older : List SpanCall) → get (spans_along d old) p ≡ from_two (span_from d p older) → get (spans_along d new) p ≡ from_two (span_from d p (call ∷ older)))
     → AppendsHistory HasSpanHistory old new (call ∷ [])
-history_step old new call step calls told d p =
-    step d p (reverse calls) (told d p) ∙ ap (λ xs. from_two (span_from d p xs)) (sym (newest calls call))
+history_step old new call step calls told = history_of_spans (calls ++ call ∷ []) new
+    (λ d p. step d p (reverse calls) (spans_of_history calls old told d p) ∙ ap (λ xs. from_two (span_from d p xs)) (sym (newest calls call)))
 
 module _ (q : Position) (n : ℕ) (old new : FinMap position_cmp ℕ) (changed : (p : Position) → get new p ≡ span_set q n p (get old p)) where
   -- no span below 2 comes to be stored
@@ -71,6 +76,26 @@ stored_set old q n big p =
     let two : leb 2 n ≡ true = le-leb 2 n big in
     get-insert position_total old q n p
     ∙ (λ i. cond ((tied p q ∙ ap (λ b. b && position_eq q p) (sym one)) i) (cond (sym two i) (Some n) None) (get old p))
+
+either : (b : Bool) (m n : ℕ) → cond b (from_two m) (from_two n) ≡ from_two (cond b m n)
+either true m n = refl
+either false m n = refl
+
+pub history_set_column : (old new rows : FinMap position_cmp ℕ) (q : Position) (n : ℕ) → ((p : Position) → get new p ≡ span_set q n p (get old p))
+    → AppendsHistory HasSpanHistory (record { columns = old; rows = rows }) (record { columns = new; rows = rows }) (SetSpan Columns q n ∷ [])
+history_set_column old new rows q n changed = history_step _ _ (SetSpan Columns q n) (λ d p older.
+    elim d as (λ d. get (spans_along d (record { columns = old; rows = rows })) p ≡ from_two (span_from d p older) → get (spans_along d (record { columns = new; rows = rows })) p ≡ from_two (span_from d p (SetSpan Columns q n ∷ older))) [
+      | Columns ↦ λ stored. changed p ∙ ap (span_set q n p) stored ∙ either (leb 1 n && position_eq q p) n (span_from Columns p older)
+      | Rows ↦ λ stored. stored
+    ])
+
+pub history_set_row : (columns old new : FinMap position_cmp ℕ) (q : Position) (n : ℕ) → ((p : Position) → get new p ≡ span_set q n p (get old p))
+    → AppendsHistory HasSpanHistory (record { columns = columns; rows = old }) (record { columns = columns; rows = new }) (SetSpan Rows q n ∷ [])
+history_set_row columns old new q n changed = history_step _ _ (SetSpan Rows q n) (λ d p older.
+    elim d as (λ d. get (spans_along d (record { columns = columns; rows = old })) p ≡ from_two (span_from d p older) → get (spans_along d (record { columns = columns; rows = new })) p ≡ from_two (span_from d p (SetSpan Rows q n ∷ older))) [
+      | Columns ↦ λ stored. stored
+      | Rows ↦ λ stored. changed p ∙ ap (span_set q n p) stored ∙ either (leb 1 n && position_eq q p) n (span_from Rows p older)
+    ])
 
 pub history_remove_columns : (columns rows : FinMap position_cmp ℕ) → AppendsHistory HasSpanHistory (record { columns = columns; rows = rows }) (record { columns = empty; rows = rows }) (RemoveSpans Columns ∷ [])
 history_remove_columns columns rows = history_step _ _ (RemoveSpans Columns) (λ d p older.

@@ -1,5 +1,5 @@
 -- What a map holds, by the entries of its three maps.
-use Rattle.std.proofs.Common.{◌≡◌, ℕ, Bool, ◌&&◌, List, [], length, eqb, Option, Some, None, refl, sym, ap, ◌∙◌}
+use Rattle.std.proofs.Common.{◌≡◌, ℕ, Bool, ◌&&◌, List, [], length, eqb, Option, Some, None, refl, sym, subst, ap, ◌∙◌}
 use Rattle.std.specs.Prelude.{◌↔◌, IsTrue}
 use Rattle.std.specs.Cmp.{nat_eq_equiv}
 use Rattle.std.proofs.lemmas.Bool.{and_parts, and_from}
@@ -8,11 +8,13 @@ use Rattle.std.specs.Map.{lookup}
 use Rattle.std.specs.FinMap.{from_entries}
 use Rattle.papergrid_values.specs.MapKeys.{position_eq}
 use Rattle.papergrid_maps.specs.StoredMap.{Stored, HasNothing, stored_value, HasMapHistory}
-use Rattle.papergrid_maps.specs.MapCalls.{effective_value}
+use Rattle.papergrid_maps.specs.EffectiveCall.{IsEffective}
+use Rattle.papergrid_maps.specs.ForProofs.MapSearch.{effective_value}
 use Rattle.papergrid_maps.specs.declared.entity_map.MapCall.{MapCall}
 use Rattle.papergrid_values.specs.declared.position.Position.{Position}
 use Rattle.papergrid_values.proofs.EntryLemmas.{no_entries, none_of_nothing}
 use Rattle.papergrid_values.proofs.KeyLemmas.{get_at_number, get_at_position, position_equiv}
+use Rattle.papergrid_maps.proofs.EffectiveCallLemmas.{effective_value-IsEffective, history_of_search, search_of_history}
 
 module _ {T : Type 0} where
   -- the map with these entries
@@ -24,12 +26,12 @@ module _ {T : Type 0} where
   stored_value-view_of g cs rs ks p = λ i. unwrap_or (get_at_position ks p i) (unwrap_or (get_at_number cs p.col i) (unwrap_or (get_at_number rs p.row i) g))
 
   pub new_history : (g : T) → HasMapHistory g [] (view_of g [] [] [])
-  new_history g = record {
+  new_history g = history_of_search [] g (view_of g [] [] []) (record {
     global = refl;
     columns = λ c. get_at_number [] c;
     rows = λ r. get_at_number [] r;
     cells = λ p. get_at_position [] p;
-  }
+  })
 
 -- nothing is stored where the three maps are empty
 pub nothing_stored : {T : Type 0} (g : T) (cs rs : List (ℕ × T)) (ks : List (Position × T)) (a b c : Bool)
@@ -57,5 +59,11 @@ pub unwrap_or_unset : {T : Type 0} {v : T} {o : Option T} {d : T} → None ≡ o
 unwrap_or_unset {d = d} e is = is ∙ ap (λ o. unwrap_or o d) e
 
 -- what is stored is what the calls decide
-pub stored_effective : {T : Type 0} (given : T) (calls : List (MapCall T)) (stored : Stored T) → HasMapHistory given calls stored → (p : Position) → stored_value stored p ≡ effective_value given calls p
-stored_effective given calls stored told p = λ i. unwrap_or (told.cells p i) (unwrap_or (told.columns p.col i) (unwrap_or (told.rows p.row i) (told.global i)))
+module _ {T : Type 0} (given : T) (calls : List (MapCall T)) (stored : Stored T) (told : HasMapHistory given calls stored) (p : Position) where
+  pub stored_effective : stored_value stored p ≡ effective_value given calls p
+  stored_effective =
+      let holds = search_of_history calls given stored told in
+      λ i. unwrap_or (holds.cells p i) (unwrap_or (holds.columns p.col i) (unwrap_or (holds.rows p.row i) (holds.global i)))
+
+  pub stored-IsEffective : {v : T} → v ≡ stored_value stored p → IsEffective calls given p v
+  stored-IsEffective is = subst (IsEffective calls given p) (sym (is ∙ stored_effective)) (effective_value-IsEffective calls given p)

@@ -3,6 +3,8 @@
 pub mod BlankColors
 pub mod Made
 pub mod MapEqLaws
+pub mod MapSearch
 pub mod PaddingLaws
 pub mod SpanEq
 pub mod SpanIndex
+pub mod SpanSearch

@@ -2,7 +2,7 @@ pub mod Anchors
 pub mod StoredColors
 pub mod Grids
 pub mod Hidden
-pub mod EffectiveSpan
+pub mod EffectiveCall
 pub mod StoredSame
 pub mod Keys
 pub mod Listed

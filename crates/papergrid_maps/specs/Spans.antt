@@ -1,5 +1,5 @@
 -- Spans: what the calls decide, what is stored, and what a rectangle hides.
-use Rattle.std.specs.Prelude.{◌≡◌, ℕ, ◌+◌, ◌<◌, ◌≤◌, ◌≢◌, ◌&&◌, not, nat_lt, nat_le, Bool, true, false, if◌then◌else◌, List, [], ◌∷◌, ◌++◌, reverse, Option, Some, None, IsSome, unwrap_or}
+use Rattle.std.specs.Prelude.{◌≡◌, ℕ, ◌+◌, ◌<◌, ◌≤◌, ◌≢◌, ◌&&◌, not, nat_lt, nat_le, Bool, true, false, if◌then◌else◌, All, List, ◌∷◌, ◌++◌, Option, Some, None, IsSome, unwrap_or}
 use Rattle.std.specs.List.{list_any}
 use Rattle.std.specs.FinMap.{FinMap, get, keys}
 use Rattle.papergrid_values.specs.Positions.{along}
@@ -20,18 +20,23 @@ pub data SpanCall : Type 0 where
   SetSpan : Direction → Position → ℕ → SpanCall
   RemoveSpans : Direction → SpanCall
 
--- the span of a position: the number of the last call for it with 1 or more, or 1
--- where there is none. Only calls since the last removal of all spans of the direction
--- count. The newest call comes first
-abbrev pub span_from : Direction → Position → List SpanCall → ℕ
-span_from d p [] = 1
-span_from d p (RemoveSpans e ∷ older) = if is_same_direction e d then 1 else span_from d p older
-span_from d p (SetSpan e q n ∷ older) =
-    if is_same_direction e d && (nat_le 1 n && position_eq q p) then n else span_from d p older
+-- which call decides the span of a position along a direction, by its index in the list of calls: apart from any search
+module _ (d : Direction) (p : Position) where
+  -- a call that sets the span of the position along the direction to 1 or more, or removes all spans of the direction
+  abbrev pub decides_span : SpanCall → Bool
+  decides_span (SetSpan e q n) = is_same_direction e d && (nat_le 1 n && position_eq q p)
+  decides_span (RemoveSpans e) = is_same_direction e d
 
--- the effective span of calls for a position, the oldest first
-abbrev pub effective_span : Direction → Position → List SpanCall → ℕ
-effective_span d p calls = span_from d p (reverse calls)
+  -- none of the calls does
+  abbrev pub NoneDecides : List SpanCall → Type 0
+  NoneDecides calls = All (λ call. decides_span call ≡ false) calls
+
+  -- the span that the calls, the oldest first, leave: what the last call that decides it sets it to. It is 1 where that
+  -- call removes it, and 1 where none decides it
+  pub data IsEffectiveSpan (calls : List SpanCall) : ℕ → Type 0 where
+    BySet : (n : ℕ) (before after : List SpanCall) → 1 ≤ n → calls ≡ before ++ SetSpan d p n ∷ after → NoneDecides after → IsEffectiveSpan calls n
+    ByRemoval : (before after : List SpanCall) → calls ≡ before ++ RemoveSpans d ∷ after → NoneDecides after → IsEffectiveSpan calls 1
+    ByNone : NoneDecides calls → IsEffectiveSpan calls 1
 
 -- the spans stored, by column and by row
 pub record Spans : Type 0 where
@@ -49,7 +54,8 @@ from_two n = if nat_le 2 n then Some n else None
 
 -- a new table that was given the calls holds this
 abbrev pub HasSpanHistory : List SpanCall → Spans → Type 0
-HasSpanHistory calls spans = (d : Direction) (p : Position) → get (spans_along d spans) p ≡ from_two (effective_span d p calls)
+HasSpanHistory calls spans =
+    (d : Direction) (p : Position) (n : ℕ) → IsEffectiveSpan d p calls n → get (spans_along d spans) p ≡ from_two n
 
 -- a span of the direction is stored
 abbrev pub HasSpan : FinMap position_cmp ℕ → Type 0

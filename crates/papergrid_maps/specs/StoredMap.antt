@@ -1,11 +1,11 @@
 -- What a map of values by entity holds.
-use Rattle.std.specs.Prelude.{◌≡◌, ℕ, List, reverse, Option, Some, None, unwrap_or, refl}
+use Rattle.std.specs.Prelude.{◌≡◌, ℕ, List, length, Option, Some, None, unwrap_or, refl}
 use Rattle.std.specs.Ordering.{nat_cmp}
 use Rattle.std.specs.FinMap.{FinMap, get, code}
 use Rattle.std.specs.Coded.{Coded, code_by, coded×, coded_ℕ}
 use Rattle.papergrid_values.specs.MapKeys.{position_cmp, coded_position}
 use Rattle.papergrid_values.specs.History as told
-use Rattle.papergrid_maps.specs.MapCalls.{global_value, cell_override_value, standing_value}
+use Rattle.papergrid_maps.specs.EffectiveCall.{EntityStands, IsFound, IsGlobal, OverrideStands}
 use Rattle.papergrid_values.specs.declared.position.Position.{Position}
 use Rattle.papergrid_values.specs.declared.entity.Entity.{Entity}
 use Rattle.papergrid_values.specs.declared.entity.Entity.TheVariants.{Global, Column, Row, Cell}
@@ -36,10 +36,10 @@ module _ {T : Type 0} where
 
   -- a map that was made with a value, and then given the calls, holds this
   pub record HasMapHistory (given : T) (calls : List (MapCall T)) (stored : Stored T) : Type 0 where
-    pub global : stored.global ≡ global_value given (reverse calls)
-    pub columns : (c : ℕ) → get stored.columns c ≡ standing_value (Column c) (reverse calls)
-    pub rows : (r : ℕ) → get stored.rows r ≡ standing_value (Row r) (reverse calls)
-    pub cells : (p : Position) → get stored.cells p ≡ cell_override_value p.row p.col (reverse calls)
+    pub global : IsGlobal calls given stored.global
+    pub columns : (c : ℕ) → IsFound (EntityStands calls (Column c) (length calls)) (get stored.columns c)
+    pub rows : (r : ℕ) → IsFound (EntityStands calls (Row r) (length calls)) (get stored.rows r)
+    pub cells : (p : Position) → IsFound (OverrideStands calls p.row p.col (length calls)) (get stored.cells p)
 
   -- whatever the history of the map, it becomes this and then the further calls
   abbrev pub AppendsCalls : Stored T → Stored T → List (MapCall T) → Type 0

@@ -11,7 +11,8 @@ ghost use Rattle.papergrid_values.specs.declared.position.Position.{Position};
 ghost use Rattle.papergrid_values.specs.MapKeys.{position_eq};
 ghost use Rattle.papergrid_maps.specs.Keys.{entity_eq};
 ghost use Rattle.papergrid_maps.specs.Listed.{AreSetCells, HasAtEach};
-ghost use Rattle.papergrid_maps.specs.MapCalls.{effective_value, may_grow};
+ghost use Rattle.papergrid_maps.specs.EffectiveCall.{IsEffective};
+ghost use Rattle.papergrid_maps.specs.MapCalls.{may_grow};
 ghost use Rattle.papergrid_maps.specs.StoredMap.{HasMapHistory, AppendsCalls, HasNothing, HoldsValue, held_for, stored_value};
 ghost use Rattle.papergrid_maps.specs.declared.entity_map.MapCall.{MapCall};
 
@@ -102,7 +103,7 @@ impl<T> EntityMap<T> {
     pub fn get(&self, position: Position) -> &T
         ensures stored { result.now ≡ stored_value self.now position }
         ensures effective { (given : T) (calls : List (MapCall T)) →
-            HasMapHistory given calls self.now → result.now ≡ effective_value given calls position }
+            HasMapHistory given calls self.now → IsEffective calls given position result.now }
     {
         if let Some(value) = look_up(&self.cells, position) {
             return value;

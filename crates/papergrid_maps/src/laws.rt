@@ -9,12 +9,11 @@ ghost use Rattle.papergrid_maps.specs.declared.anchors.Anchor.{Anchor};
 ghost use Rattle.papergrid_maps.specs.declared.entity_map.MapCall.{MapCall};
 ghost use Rattle.papergrid_maps.specs.declared.entity_map.Stopped.{Stopped};
 ghost use Rattle.papergrid_maps.specs.declared.view.Paddings.{Paddings};
-ghost use Rattle.papergrid_maps.specs.EffectiveSpan.{IsEffectiveSpan};
 ghost use Rattle.papergrid_maps.specs.StoredSame.{HoldTheSameSpans, HoldTheSameValues};
-ghost use Rattle.papergrid_maps.specs.MapCalls.{effective_value};
+ghost use Rattle.papergrid_maps.specs.EffectiveCall.{IsEffective};
 ghost use Rattle.papergrid_maps.specs.StoredMap.{Stored, HasMapHistory, stored_value};
 ghost use Rattle.papergrid_maps.specs.Spans as spans;
-ghost use Rattle.papergrid_maps.specs.Spans.{IsVisible, SpanCall, Spans, effective_span, is_visible, span_along};
+ghost use Rattle.papergrid_maps.specs.Spans.{IsEffectiveSpan, IsVisible, SpanCall, Spans, is_visible, span_along};
 
 use crate::{Anchor, EntityMap, MapCall, Paddings, SpanTable, Stopped};
 
@@ -23,8 +22,17 @@ use crate::{Anchor, EntityMap, MapCall, Paddings, SpanTable, Stopped};
 pub fn history_decides<T>()
     ensures { (given : T) (calls : List (MapCall T)) (stored : Stored T) →
         HasMapHistory given calls stored →
-        (position : Position) → stored_value stored position
-        ≡ effective_value given calls position }
+        (position : Position) → IsEffective calls given position (stored_value stored position) }
+{}
+
+/// What is decided for a cell is what its deciding call says, by its index in the list: the last
+/// override that counts, else the column's value that stands, else the row's, else the whole
+/// table's, else the one given at first. There is such a value, and no other is.
+pub fn one_effective_value<T>()
+    ensures some { (given : T) (calls : List (MapCall T)) (position : Position) →
+        (v : T) × IsEffective calls given position v }
+    ensures only { (given : T) (calls : List (MapCall T)) (position : Position) (v w : T) →
+        IsEffective calls given position v → IsEffective calls given position w → v ≡ w }
 {}
 
 /// Any calls make spans that have them as their history, and no others.
@@ -36,13 +44,13 @@ pub fn history_makes_spans()
 {}
 
 /// The span that calls decide is the one that their deciding call sets, by its index in the list:
-/// the last of those that set it to 1 or more and of those that remove all spans of its direction;
-/// and no other is.
-pub fn spans_by_index()
-    ensures effective { (calls : List SpanCall) (d : Direction) (position : Position) →
-        IsEffectiveSpan d position calls (effective_span d position calls) }
-    ensures only { (calls : List SpanCall) (d : Direction) (position : Position) (n : ℕ) →
-        IsEffectiveSpan d position calls n → n ≡ effective_span d position calls }
+/// the last of those that set it to 1 or more and of those that remove all spans of its direction.
+/// There is such a span, and no other is.
+pub fn one_effective_span()
+    ensures some { (calls : List SpanCall) (d : Direction) (position : Position) →
+        (n : ℕ) × IsEffectiveSpan d position calls n }
+    ensures only { (calls : List SpanCall) (d : Direction) (position : Position) (m n : ℕ) →
+        IsEffectiveSpan d position calls m → IsEffectiveSpan d position calls n → m ≡ n }
 {}
 
 /// A position passes the computed test of visibility exactly where it lies in no other anchor's

@@ -66,7 +66,7 @@ are_found ByShares problem sizes are = record { none_out = are.none_out; exact =
 are_found Least problem sizes are = record { none_out = are.none_out; exact = exact-least problem sizes are; total = are.total }
 
 none_large : (sizing : Sizing) (problem : Problem) → AreTooLargeBy sizing problem → 2 ^ 64 ≤ (solution_by sizing problem).total
-none_large ByShares problem none = none.too_large
+none_large ByShares problem none = none.too_large _ refl
 none_large Least problem none = past-least problem none
 
 found_certificate : (sizing : Sizing) (problem : Problem) (found : Option (List Position)) → IsCertificateBy sizing problem found → found ≡ (solution_by sizing problem).certificate

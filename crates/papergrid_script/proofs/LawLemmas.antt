@@ -25,13 +25,14 @@ use Rattle.papergrid_layout.proofs.PairLemmas.{none_overflows}
 use Rattle.papergrid_tracks.specs.declared.sizing.Sizing.{Sizing}
 use Rattle.papergrid_tracks.specs.declared.sizing.Sizing.TheVariants.{ByShares, Least}
 use Rattle.papergrid_script.specs.Estimates.{Estimate, IsEstimate, IsEstimateBy, OutOfTable, TooLarge, Sized}
-use Rattle.papergrid_script.specs.ForProofs.Estimated.{estimate_by, estimate_of, grid_of, solution_by, unless_large, unless_out}
+use Rattle.papergrid_script.specs.ForProofs.Estimated.{estimate_by, estimate_of, solution_by, unless_large, unless_out}
 use Rattle.papergrid_walk.specs.Measures.{text_measure}
 use Rattle.papergrid_script.specs.Scripts.{Table}
 use Rattle.papergrid_tracks.specs.Sizings.{AreSizesBy, AreTooLargeBy, IsCertificateBy}
 use Rattle.papergrid_layout.specs.Certificates.{IsSolutionBy, Solution}
 use Rattle.papergrid_script.proofs.EstimateLemmas.{estimate-only, solutions_by, total_by}
-use Rattle.papergrid_script.proofs.GridLemmas.{grid_covers, is-grid, one-grid}
+use Rattle.papergrid_config.specs.ForProofs.Made.{grid_of}
+use Rattle.papergrid_config.proofs.SettingGridLemmas.{grid_covers, is-grid, one-grid}
 
 -- ---- along a direction
 
@@ -60,7 +61,7 @@ module _ (problem : Problem) (table : All (IsInTable problem.count) problem.dema
 -- where the least sizes are too large, so are those by shares
 shares-past : (problem : Problem) → AreTooLargeBy Least problem → AreTooLargeBy ByShares problem
 shares-past problem none =
-    let past : 18446744073709551616 ≤ total_of problem (sizes_of problem) = none.others_too_large (sizes_of problem) (Fits-sizes_of problem none.table) in
+    let past : 18446744073709551616 ≤ total_of problem (sizes_of problem) = none.others_too_large tt (sizes_of problem) (Fits-sizes_of problem none.table) in
     AreSizesTooLarge-sizes_of problem none.table (λ small. absurd (omega arith))
 
 -- ---- the three answers

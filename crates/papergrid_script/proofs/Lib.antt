@@ -4,7 +4,6 @@ mod CutLemmas
 mod DraftLemmas
 mod EscapeLemmas
 mod EstimateLemmas
-pub mod GridLemmas
 mod LastByteLemmas
 mod LawLemmas
 mod LineLemmas

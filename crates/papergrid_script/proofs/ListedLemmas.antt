@@ -22,9 +22,9 @@ use Rattle.papergrid_values.specs.Tabulated.{tabulation, with_value}
 use Rattle.papergrid_tables.specs.ForProofs.Made.{borders_made, named_columns, named_positions, named_rows}
 use Rattle.papergrid_tables.specs.BorderParts.{at_ends, parts_from}
 use Rattle.papergrid_maps.specs.ForProofs.Made.{named_anchors, spans_made}
-use Rattle.papergrid_maps.specs.Spans.{SpanCall, Spans, effective_span, from_two, is_hidden_by, is_visible, span_along}
+use Rattle.papergrid_maps.specs.Spans.{SpanCall, Spans, from_two, is_hidden_by, is_visible, span_along}
+use Rattle.papergrid_maps.specs.ForProofs.SpanSearch.{effective_span}
 use Rattle.papergrid_values.proofs.KeyLemmas.{position_total}
-use Rattle.papergrid_config.specs.Effective as effective
 use Rattle.papergrid_config.specs.Parts.{character_calls, span_calls}
 use Rattle.papergrid_config.specs.declared.setting.Setting.{Setting}
 use Rattle.papergrid_maps.specs.Grids.{Grid, size_after, size_before}
@@ -34,7 +34,8 @@ use Rattle.papergrid_script.specs.declared.answer.RunEnd.{RunEnd}
 use Rattle.papergrid_script.specs.declared.answer.RunEnd.TheVariants.{BadScript}
 use Rattle.papergrid_script.proofs.OutcomeLemmas.{outcome-computed, outcome-only}
 use Rattle.papergrid_script.specs.Estimates.{Estimate}
-use Rattle.papergrid_script.specs.ForProofs.Estimated.{estimate_by, estimate_of, grid_of, outcome_of}
+use Rattle.papergrid_script.specs.ForProofs.Estimated.{estimate_by, estimate_of, outcome_of}
+use Rattle.papergrid_config.specs.ForProofs.Made.{grid_of, padding_of}
 use Rattle.papergrid_walk.specs.Measures.{text_measure}
 use Rattle.papergrid_script.specs.Outputs.{bad_line_text, estimate_end, estimate_text, outcome_end, outcome_text}
 use Rattle.papergrid_script.specs.Rows.{GivesBy}
@@ -208,7 +209,7 @@ grid_by padding columns rows lines = record {
 abbrev pub listed_grid : List Setting → Grid
 listed_grid settings =
     let calls = flat_map span_calls settings in
-    grid_by (effective.padding settings) (column_spans_listed calls) (row_spans_listed calls) (flat_map character_calls settings)
+    grid_by (padding_of settings) (column_spans_listed calls) (row_spans_listed calls) (flat_map character_calls settings)
 
 grid_listed : (settings : List Setting) → grid_of settings ≡ listed_grid settings
 unfolding grid_of
@@ -218,8 +219,8 @@ grid_listed settings =
     λ i. record {
       shows = λ p. made_shows calls p i;
       span = λ direction p. made_spans calls direction p i;
-      before = λ direction p. size_before direction (effective.padding settings p);
-      after = λ direction p. size_after direction (effective.padding settings p);
+      before = λ direction p. size_before direction (padding_of settings p);
+      after = λ direction p. size_after direction (padding_of settings p);
       draws = λ direction count position. made_lines lines direction count position i;
     }
 

@@ -25,7 +25,7 @@ use Rattle.papergrid_script.specs.Spelling.{Said, Nothing, Columns, Set, Row, Ce
 use Rattle.papergrid_script.specs.Spelling.{IsNumber, IsPosition, IsEntity, AreSides, IsCharacter, IsSetting, Pad, Colspan, Rowspan, Border, Vline, Hline, Novline, Nohline, Means, Ended, Plain, Newline, Tab, Backslash, IsLine}
 use Rattle.papergrid_script.proofs.CharacterLemmas.{character_read, text_behind}
 use Rattle.papergrid_script.specs.Texts.{unescaped, escape_of, put_first}
-use Rattle.papergrid_config.proofs.EffectiveCallLemmas.{chosen}
+use Rattle.papergrid_maps.proofs.EffectiveCallLemmas.{chosen}
 
 -- ---- tests and options
 

@@ -4,7 +4,7 @@ use Rattle.std.specs.Prelude.{⊤}
 use Rattle.std.specs.Result.{IsErrOf, IsOkAnd, MatchResult}
 use Rattle.papergrid_text.specs.Transfer.{HasEnded, IsSteady}
 use Rattle.papergrid_script.specs.Inputs.{IsWholeInput}
-use Rattle.papergrid_script.specs.Runs.{HasRun, IsRunFault, Runs}
+use Rattle.papergrid_script.specs.Runs.{IsRunFault, Runs}
 use Rattle.papergrid_script.specs.Writing.{WritesOutput}
 use Rattle.papergrid_script.specs.declared.reading.RunFault.{RunFault}
 use Rattle.papergrid_script.specs.declared.reading.RunFault.TheVariants.{Memory, Read, Write}
@@ -14,13 +14,8 @@ module _ {R W : Type 0} (remaining : R → Option (List ℕ)) (read_failed : R �
   -- the input was not read
   pub fault-before : (fault : RunFault) → (fault ≡ Memory → read_failed reader_new ≡ read_failed reader_old) → (fault ≡ Read → read_failed reader_new ≡ true) → (fault ≡ Write → ⊥) →
       IsRunFault remaining read_failed contents has_failed has_stalled reader_old reader_new writer_old writer_old input_old input_old fault
-  fault-before Read memory read never = record { read = read refl; nothing = refl; kept = refl }
-  fault-before Memory memory read never = record {
-    reader_works = memory refl ∙ reader_works;
-    writer_works = writer_works;
-    writer_moves = refl;
-    kept = inl (refl, refl);
-  }
+  fault-before Read memory read never = (read refl, (refl, refl))
+  fault-before Memory memory read never = ((writer_works, refl), inl (memory refl ∙ reader_works, (refl, refl)))
   fault-before Write memory read never = absurd (never refl)
 
   -- it was, and then the run broke off
@@ -31,25 +26,9 @@ module _ {R W : Type 0} (remaining : R → Option (List ℕ)) (read_failed : R �
   fault-after writer_new input_new works whole Read never write steady = absurd (never refl)
   fault-after writer_new input_new works whole Memory never write steady = elim steady [
     | inl is ↦ absurd (let none : ⊥ = cc in none)
-    | inr same ↦ record {
-      reader_works = works ∙ reader_works;
-      writer_works = same.0 ∙ writer_works;
-      writer_moves = same.1;
-      kept = inr whole;
-    }
+    | inr same ↦ ((same.0 ∙ writer_works, same.1), inr (works ∙ reader_works, whole))
   ]
-  fault-after writer_new input_new works whole Write never write steady = record { reader_works = works ∙ reader_works; write = write refl; kept = whole }
-
-  -- it was, and the run came to its end
-  pub has-run : (writer_new : W) (input_new : Vec ℕ Global) → read_failed reader_new ≡ read_failed reader_old → IsWholeInput (remaining reader_old) (remaining reader_new) input_new.items →
-      IsSteady contents has_failed has_stalled writer_old writer_new →
-      HasRun remaining read_failed contents has_failed has_stalled reader_old reader_new writer_old writer_new input_old input_new
-  has-run writer_new input_new works whole same = record {
-    kept = whole;
-    reader_works = works ∙ reader_works;
-    writer_works = same.0 ∙ writer_works;
-    writer_moves = same.1;
-  }
+  fault-after writer_new input_new works whole Write never write steady = ((works ∙ reader_works, whole), write refl)
 
 -- ---- a run that writes an output by how it ends
 
@@ -75,8 +54,7 @@ module _ {R W E : Type 0} {remaining : R → Option (List ℕ)} {read_failed : R
       Runs remaining read_failed contents has_failed has_stalled reader_old reader_new writer_old writer_new input_old input_new IsOutput result
   runs-read MayWrite {writer_new} {input_new} works whole (Ok end) so = record {
     written = (so.0, so.1, so.2.taken.bytes_are);
-    ran = has-run remaining read_failed contents has_failed has_stalled reader_old reader_new reader_works writer_old writer_works input_old writer_new input_new works whole
-        (so.2.taken.works, so.2.taken.moves);
+    ran = ((works ∙ reader_works, whole), (so.2.taken.works ∙ writer_works, so.2.taken.moves));
     fault = tt;
     beginning = tt;
   }

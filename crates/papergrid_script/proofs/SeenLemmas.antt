@@ -12,14 +12,14 @@ use Rattle.papergrid_config.specs.Grids.{spanned_grid}
 use Rattle.papergrid_walk.specs.Measures.{line_measure}
 use Rattle.papergrid_script.specs.Estimates.{Estimate, IsEstimate, IsEstimateBy}
 use Rattle.papergrid_walk.specs.Measures.{text_measure}
-use Rattle.papergrid_script.specs.ForProofs.Estimated.{grid_of}
+use Rattle.papergrid_config.specs.ForProofs.Made.{grid_of}
 use Rattle.papergrid_script.specs.Seen.{rows_seen, table_seen}
 use Rattle.papergrid_script.specs.Settings.{setting_told}
 use Rattle.papergrid_script.specs.ForProofs.Sized.{GivesEstimate}
 use Rattle.papergrid_tracks.specs.declared.sizing.Sizing.{Sizing}
 use Rattle.papergrid_script.specs.declared.script.Script.{Script}
 use Rattle.papergrid_script.proofs.EstimateLemmas.{estimate_told, gives_also}
-use Rattle.papergrid_script.proofs.GridLemmas.{grid_told, is-grid}
+use Rattle.papergrid_config.proofs.SettingGridLemmas.{grid_told, is-grid}
 
 -- what is estimated of the cells that the records yield, by the configuration, is estimated of the script's table
 seen : {A : Type 0} (view : A → Bor (List ℕ)) (script : Script) (config : SpannedConfig) (cells : List (List A)) (rows : List (Bor (List (Bor (List ℕ))))) (columns : ℕ) (sizing : Sizing) (e : Estimate)

@@ -9,7 +9,7 @@ use Rattle.papergrid_walk.specs.Measures.{text_measure}
 use Rattle.papergrid_layout.specs.Answers.{IsBothRefused}
 use Rattle.papergrid_layout.specs.Certificates.{AreSolutionsBy, Solution}
 use Rattle.papergrid_tracks.specs.declared.sizing.Sizing.{Sizing}
-use Rattle.papergrid_script.specs.Grids.{IsGridOf}
+use Rattle.papergrid_config.specs.Grids.{IsGridOf}
 use Rattle.papergrid_script.specs.Scripts.{Table}
 
 -- out of the table at a position, too large, or what is found along both directions

@@ -1,7 +1,6 @@
 pub mod Arguments
 pub mod Estimates
 pub mod Grammar
-pub mod Grids
 pub mod Inputs
 pub mod Outputs
 pub mod Reasons

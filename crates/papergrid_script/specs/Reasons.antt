@@ -1,8 +1,7 @@
 -- Why an input has no sizes.
-use Rattle.std.specs.Prelude.{ℕ, List, flat_map, length, Option, Some, None, ⊤}
-use Rattle.papergrid_values.specs.declared.direction.Direction.{Direction}
+use Rattle.std.specs.Prelude.{◌≡◌, ℕ, List, flat_map, length, Option, Some, None, ⊤}
 use Rattle.papergrid_values.specs.declared.direction.Direction.TheVariants.{Columns, Rows}
-use Rattle.papergrid_maps.specs.Spans.{effective_span}
+use Rattle.papergrid_maps.specs.Spans.{IsEffectiveSpan}
 use Rattle.papergrid_config.specs.Parts.{span_calls}
 use Rattle.papergrid_script.specs.declared.explained.Reason.{Reason}
 use Rattle.papergrid_script.specs.declared.explained.Reason.TheVariants as reason
@@ -11,17 +10,18 @@ use Rattle.papergrid_script.specs.Outputs.{BadLine, Estimated, Outcome, bad_line
 use Rattle.papergrid_script.specs.Scripts.{Table}
 
 -- for the first visible cell out of the table, its spans and the shape of the table, rows first
-abbrev pub estimate_reason : Table → Estimate → Option Reason
-estimate_reason table (OutOfTable position) =
-    let span = λ (direction : Direction). effective_span direction position (flat_map span_calls table.settings) in
-    Some (reason.OutOfTable position (span Rows, span Columns) (length table.rows, table.columns))
-estimate_reason table TooLarge = Some reason.TooLarge
-estimate_reason table (Sized found) = None
+abbrev pub IsEstimateReason : Table → Estimate → Option Reason → Type 0
+IsEstimateReason table (OutOfTable position) why =
+    let calls = flat_map span_calls table.settings in
+    (rows : ℕ) × (columns : ℕ) × IsEffectiveSpan Rows position calls rows × IsEffectiveSpan Columns position calls columns
+    × (why ≡ Some (reason.OutOfTable position (rows, columns) (length table.rows, table.columns)))
+IsEstimateReason table TooLarge why = why ≡ Some reason.TooLarge
+IsEstimateReason table (Sized found) why = why ≡ None
 
 -- why there are no sizes: the first bad line, or why the table is refused; none where there are sizes
-abbrev pub outcome_reason : Outcome → Option Reason
-outcome_reason (BadLine number) = Some (reason.BadLine number)
-outcome_reason (Estimated table estimate) = estimate_reason table estimate
+abbrev pub IsOutcomeReason : Outcome → Option Reason → Type 0
+IsOutcomeReason (BadLine number) why = why ≡ Some (reason.BadLine number)
+IsOutcomeReason (Estimated table estimate) why = IsEstimateReason table estimate why
 
 -- the line that a run writes of a reason
 abbrev pub reason_text : Reason → List ℕ

@@ -10,44 +10,28 @@ use Rattle.papergrid_script.specs.declared.reading.RunFault.TheVariants.{Memory,
 -- a reader and a writer, by what they tell
 module _ {R W : Type 0} (remaining : R → Option (List ℕ)) (read_failed : R → Bool) (contents : W → Option (List ℕ)) (has_failed has_stalled : W → Bool)
     (reader_old reader_new : R) (writer_old writer_new : W) (input_old input_new : Vec ℕ Global) where
-  -- the run came to its end: the whole input is kept, no read and no write failed, and whether a write took nothing of a
-  -- piece that isn't empty is as before
-  pub record HasRun : Type 0 where
-    pub kept : IsWholeInput (remaining reader_old) (remaining reader_new) input_new.items
-    pub reader_works : read_failed reader_new ≡ false
-    pub writer_works : has_failed writer_new ≡ false
-    pub writer_moves : has_stalled writer_new ≡ has_stalled writer_old
+  -- no read failed, and the whole input is kept
+  abbrev pub HasKeptInput : Type 0
+  HasKeptInput = (read_failed reader_new ≡ false) × IsWholeInput (remaining reader_old) (remaining reader_new) input_new.items
 
-  -- the reader failed, before anything was written or kept
-  pub record HasReadFault : Type 0 where
-    pub read : read_failed reader_new ≡ true
-    pub nothing : writer_new ≡ writer_old
-    pub kept : input_new ≡ input_old
+  -- nothing was written, and nothing is kept
+  abbrev pub HasLeftBoth : Type 0
+  HasLeftBoth = (writer_new ≡ writer_old) × (input_new ≡ input_old)
 
-  -- an allocation failed, and no read and no write. Whether a write took nothing is as before. Nothing was written unless the
-  -- whole input was kept
-  pub record HasMemoryFault : Type 0 where
-    pub reader_works : read_failed reader_new ≡ false
-    pub writer_works : has_failed writer_new ≡ false
-    pub writer_moves : has_stalled writer_new ≡ has_stalled writer_old
-    pub kept : ((input_new ≡ input_old) × (writer_new ≡ writer_old)) ⊎ IsWholeInput (remaining reader_old) (remaining reader_new) input_new.items
+  -- no write failed, and whether one took nothing of a piece that isn't empty is as before
+  abbrev pub HasWorkingWriter : Type 0
+  HasWorkingWriter = (has_failed writer_new ≡ false) × (has_stalled writer_new ≡ has_stalled writer_old)
 
-  -- the writer failed, or took nothing of a piece that isn't empty, once the whole input was kept
-  pub record HasWriteFault : Type 0 where
-    pub reader_works : read_failed reader_new ≡ false
-    pub write : HasEnded contents has_failed has_stalled writer_old writer_new
-    pub kept : IsWholeInput (remaining reader_old) (remaining reader_new) input_new.items
-
-  -- the run broke off
+  -- the run broke off: the reader failed, an allocation did, or the writer did once the whole input was kept
   abbrev pub IsRunFault : RunFault → Type 0
-  IsRunFault Read = HasReadFault
-  IsRunFault Memory = HasMemoryFault
-  IsRunFault Write = HasWriteFault
+  IsRunFault Read = (read_failed reader_new ≡ true) × HasLeftBoth
+  IsRunFault Memory = HasWorkingWriter × (((read_failed reader_new ≡ false) × HasLeftBoth) ⊎ HasKeptInput)
+  IsRunFault Write = HasKeptInput × HasEnded contents has_failed has_stalled writer_old writer_new
 
   -- a run that writes an output by how it ends. Where it breaks off, a beginning of such a one may be written
   pub record Runs {E : Type 0} (IsOutput : E → List ℕ → Type 0) (result : Result E RunFault) : Type 0 where
     pub written : IfOk result (λ end. (output : List ℕ) × IsOutput end output × Appends (contents writer_old) (contents writer_new) output)
-    pub ran : OnOk result HasRun
+    pub ran : OnOk result (HasKeptInput × HasWorkingWriter)
     pub fault : IfErr result IsRunFault
     pub beginning : OnErr result ((writer_new ≡ writer_old)
         ⊎ ((output : List ℕ) × ((end : E) × IsOutput end output) × HasBegun contents has_failed has_stalled writer_old output writer_new))

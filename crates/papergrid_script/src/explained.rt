@@ -5,7 +5,7 @@ ghost use Rattle.papergrid_maps.specs.Spans.{span_along};
 ghost use Rattle.papergrid_values.specs.declared.direction.Direction.TheVariants.{Columns, Rows};
 ghost use Rattle.papergrid_script.specs.Estimates.{Estimate, IsEstimate};
 ghost use Rattle.papergrid_script.specs.Outputs.{OfOutcome};
-ghost use Rattle.papergrid_script.specs.Reasons.{estimate_reason, outcome_reason};
+ghost use Rattle.papergrid_script.specs.Reasons.{IsEstimateReason, IsOutcomeReason};
 ghost use Rattle.papergrid_script.specs.Seen.{table_seen};
 
 use crate::estimate::estimate;
@@ -38,7 +38,7 @@ pub enum Reason {
 /// Out of memory.
 pub fn explain(alloc: Global, sizing: Sizing, input: &[u8]) -> Result<Option<Reason>, AllocError>
     ensures { IfOk result (λ reason. OfOutcome sizing input.now (λ outcome.
-        reason ≡ outcome_reason outcome)) }
+        IsOutcomeReason outcome reason)) }
 {
     let texts = Bump::new(alloc);
     match read_script(alloc, &texts, input) {
@@ -56,7 +56,7 @@ fn table_reason(
 ) -> Result<Option<Reason>, AllocError>
     ensures { let table = table_seen script.entry in
         IfOk result (λ reason. (estimate : Estimate) × IsEstimate sizing table estimate
-        × (reason ≡ estimate_reason table estimate)) }
+        × IsEstimateReason table estimate reason) }
 {
     let config = configuration_of(alloc, script.settings)?;
     let (columns, count) = (script.columns, script.rows.len());

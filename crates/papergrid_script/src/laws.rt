@@ -3,17 +3,12 @@
 ghost use Rattle.std.specs.Prelude.{◌≡◌, ◌↔◌, ℕ, List, None, Some, true, All, Result, Ok};
 ghost use Rattle.papergrid_values.specs.declared.entity.Entity.{Entity};
 ghost use Rattle.papergrid_config.specs.Applied.{is_in_range};
-ghost use Rattle.papergrid_maps.specs.Grids.{Grid};
-ghost use Rattle.papergrid_config.specs.Grids.{spanned_grid};
-ghost use Rattle.papergrid_config.specs.History.{HasSettingHistory};
 ghost use Rattle.papergrid_config.specs.declared.setting.Setting.{Setting};
-ghost use Rattle.papergrid_config.specs.declared.spanned.SpannedConfig.{SpannedConfig};
 ghost use Rattle.papergrid_tracks.specs.declared.sizing.Sizing.{Sizing};
 ghost use Rattle.papergrid_tracks.specs.declared.sizing.Sizing.TheVariants.{ByShares, Least};
 ghost use Rattle.papergrid_script.specs.Estimates.{Estimate, IsEstimate, TooLarge};
-ghost use Rattle.papergrid_script.specs.Grids.{IsGridOf};
 ghost use Rattle.papergrid_script.specs.Outputs.{IsOutcome, Outcome, outcome_end, outcome_text};
-ghost use Rattle.papergrid_script.specs.Reasons.{IsTableReason, outcome_reason, reason_text};
+ghost use Rattle.papergrid_script.specs.Reasons.{IsOutcomeReason, IsTableReason, reason_text};
 ghost use Rattle.papergrid_script.specs.ScriptLines.{AreScriptLines};
 ghost use Rattle.papergrid_script.specs.Scripts.{IsScript, Table};
 ghost use Rattle.papergrid_script.specs.Spelling.{IsEntity, IsNumber, Said, Says};
@@ -21,16 +16,6 @@ ghost use Rattle.papergrid_script.specs.declared.answer.RunEnd.{RunEnd};
 ghost use Rattle.papergrid_script.specs.declared.explained.Reason.{Reason};
 
 pub use crate::worked::worked_rows;
-
-/// What an estimate reads of a configuration that settings make, which is which positions are visible and the spans,
-/// the paddings and the lines, is what the settings decide. They decide one grid, and no other.
-pub fn grid_by_settings()
-    ensures read { (settings : List Setting) (config : SpannedConfig) →
-        HasSettingHistory settings config → IsGridOf settings (spanned_grid config) }
-    ensures some { (settings : List Setting) → (grid : Grid) × IsGridOf settings grid }
-    ensures only { (settings : List Setting) (grid other : Grid) →
-        IsGridOf settings grid → IsGridOf settings other → grid ≡ other }
-{}
 
 /// Each input comes to one outcome, and to no other.
 pub fn one_outcome()
@@ -53,16 +38,16 @@ pub fn one_estimate()
 /// An input has a reason exactly where its run does not end with sizes: a bad line where it ends as a bad script, and one of
 /// its table where it is refused. The run writes that reason in its words.
 pub fn reasons_by_ends()
-    ensures none { (outcome : Outcome) → (outcome_reason outcome ≡ None)
+    ensures none { (outcome : Outcome) → IsOutcomeReason outcome None
         ↔ (outcome_end outcome ≡ RunEnd.Done) }
     ensures bad_line { (outcome : Outcome) →
-        ((number : ℕ) × (outcome_reason outcome ≡ Some (Reason.BadLine number)))
+        ((number : ℕ) × IsOutcomeReason outcome (Some (Reason.BadLine number)))
         ↔ (outcome_end outcome ≡ RunEnd.BadScript) }
     ensures refused { (outcome : Outcome) →
-        ((reason : Reason) × (outcome_reason outcome ≡ Some reason) × IsTableReason reason)
+        ((reason : Reason) × IsOutcomeReason outcome (Some reason) × IsTableReason reason)
         ↔ (outcome_end outcome ≡ RunEnd.Refused) }
     ensures written { (outcome : Outcome) (reason : Reason) →
-        outcome_reason outcome ≡ Some reason → outcome_text outcome ≡ reason_text reason }
+        IsOutcomeReason outcome (Some reason) → outcome_text outcome ≡ reason_text reason }
 {}
 
 /// Bytes spell at most one number, one entity, and one thing that a line says.

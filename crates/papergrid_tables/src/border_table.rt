@@ -1,11 +1,11 @@
 //! Values for the edges, corners and lines of a table. Source: `config/spanned/borders_config.rs`.
 
-ghost use Rattle.std.specs.Prelude.{◌≡◌, ◌∷◌, [], ◌+◌, ◌<◌, ◌^◌, ◌↔◌, ◌++◌, List, ℕ, OnOk, OnErr, IfOk, IsFalse, IsTrue, nat_eq, option_copied};
+ghost use Rattle.std.specs.Prelude.{◌≡◌, ◌∷◌, [], map, ◌+◌, ◌<◌, ◌^◌, ◌↔◌, ◌++◌, List, ℕ, OnOk, OnErr, IfOk, IsFalse, IsTrue, nat_eq, option_copied};
 ghost use Rattle.std.specs.HashMap.{get as map_get};
 ghost use Rattle.std.specs.Option.{option_or};
 ghost use Rattle.std.specs.FinMap.{get as value_at};
 ghost use Rattle.papergrid_values.specs.History.{AppendsHistory};
-ghost use Rattle.papergrid_values.specs.Borders.{border_map};
+ghost use Rattle.papergrid_values.specs.Borders.{border_parts};
 ghost use Rattle.papergrid_values.specs.declared.direction.Direction.TheVariants.{Columns, Rows};
 ghost use Rattle.papergrid_tables.specs.BorderCalls.{BorderCall, Clear, InsertBorder, RemoveBorder, InsertHorizontalLine, RemoveHorizontalLine, InsertVerticalLine, RemoveVerticalLine, SetBorders, SetGlobal};
 ghost use Rattle.papergrid_tables.specs.StoredBorders.{HasBorderHistory, parts_of_borders};
@@ -187,8 +187,8 @@ impl<T> BorderTable<T> {
     pub fn get_border(&self, position: Position, shape: (usize, usize)) -> Border<&T>
         requires row { position.row + 1 < 2 ^ 64 }
         requires col { position.col + 1 < 2 ^ 64 }
-        ensures { border_map (λ part. part.now) result
-            ≡ found_border (parts_of_borders self.now) position shape.0 shape.1 }
+        ensures { map option_copied (border_parts result)
+            ≡ border_parts (found_border (parts_of_borders self.now) position shape.0 shape.1) }
     {
         let (rows, cols) = shape;
         let (below, right, opposite) = parts::neighbours(position);

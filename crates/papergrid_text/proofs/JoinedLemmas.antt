@@ -2,7 +2,6 @@
 use Rattle.std.proofs.Common.{◌≡◌, ◌∙◌, ap, sym, refl, ℕ, zero, suc, ◌+◌, ◌-◌, ◌<◌, false, List, [], ◌∷◌, ◌++◌, append-nil, append_assoc, arith, chars, replicate}
 use Rattle.std.specs.Prelude.{IsUtf8}
 use Rattle.std.specs.Str.{drop_trailing_whitespace, encode_utf8_all, trim, trim_end, trim_start}
-use Rattle.std.proofs.lemmas.Str.{chars-nil}
 use Rattle.unicode_width.specs.Width.{str_width}
 use Rattle.papergrid_text.specs.Separators.{IsSeparator}
 use Rattle.papergrid_text.specs.Text.{width_of}

@@ -1,5 +1,5 @@
 -- The rows that records hold.
-use Rattle.std.specs.Prelude.{◌≡◌, ℕ, List, [], ◌∷◌, length, map, Vec, Option, Some, None, option_and_then, slice_get, MatchOption}
+use Rattle.std.specs.Prelude.{◌≡◌, ℕ, List, [], ◌∷◌, length, map, Vec, Option, option_and_then, option_map, slice_get, unwrap_or, MatchOption}
 use Rattle.std.specs.Str.Lines.{lines as std_lines}
 use Rattle.papergrid_values.specs.declared.position.Position.{Position}
 use Rattle.papergrid_text.specs.Text.{text_width, with_width}
@@ -8,11 +8,6 @@ use Rattle.papergrid_text.specs.Text.{text_width, with_width}
 abbrev pub first_length : {T Z : Type 0} → List (Vec T Z) → ℕ
 first_length [] = 0
 first_length (row ∷ rows) = length row.items
-
--- the text of a cell, and the empty text where there is none
-abbrev pub text_of : {T : Type 0} → (T → List ℕ) → Option T → List ℕ
-text_of text None = []
-text_of text (Some cell) = text cell
 
 module _ {T Z : Type 0} where
   -- the cell at a position
@@ -29,7 +24,7 @@ module _ {T Z : Type 0} where
 
   -- the text of the cell at the position, and the empty text where there is none
   abbrev pub cell_text : (T → List ℕ) → List (Vec T Z) → Position → List ℕ
-  cell_text text rows p = text_of text (cell_at rows p)
+  cell_text text rows p = unwrap_or (option_map text (cell_at rows p)) []
 
 -- the lines and the width of the cell are those of its text, by std's lines
 abbrev pub IsPlainCell : {T : Type 0} → (T → List ℕ) → (T → List (List ℕ × ℕ)) → (T → ℕ) → T → Type 0

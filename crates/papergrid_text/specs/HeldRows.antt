@@ -19,7 +19,3 @@ module _ {T : Type 0} where
   -- the number of columns that is given
   abbrev pub column_count : VecRecords T → ℕ
   column_count r = r.count_cols
-
-  -- the same counts with other rows
-  abbrev pub with_rows : VecRecords T → Vec (Vec T Global) Global → VecRecords T
-  with_rows r rows = record r { rows = rows }

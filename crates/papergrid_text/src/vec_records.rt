@@ -188,7 +188,7 @@ impl<T> Deref for VecRecords<T> {
 impl<T> DerefMut for VecRecords<T> {
     ghost use Rattle.std.specs.Prelude.{◌≡◌};
     ghost use Rattle.std.specs.Borrow.{Lends, sem};
-    ghost use Rattle.papergrid_text.specs.HeldRows.{rows_held, with_rows};
+    ghost use Rattle.papergrid_text.specs.HeldRows.{column_count, row_count, rows_held, vec_records_of};
     ghost use Rattle.papergrid_text.specs.Rows.{rows_row};
     ghost use Rattle.papergrid_text.specs.contracts.vec_records.VecRecords.{the_row};
 
@@ -196,7 +196,8 @@ impl<T> DerefMut for VecRecords<T> {
 
     fn deref_mut(&mut self) -> &mut Vec<Vec<T>>
         ensures* writes_back { sem 𝓛
-            (Lends (the_row T.row) (rows_row T.row) self.entry result (with_rows self.old)) }
+            (Lends (the_row T.row) (rows_row T.row) self.entry result
+            (λ rows. vec_records_of rows (row_count self.old) (column_count self.old))) }
         ensures shows { result.now ≡ rows_held self.old }
     {
         &mut self.rows

@@ -5,6 +5,7 @@ use Rattle.std.proofs.lemmas.List.FromFn.{fill_by_all, get_or-map-range_with_len
 use Rattle.std.specs.declared.alloc.Global.{Global}
 use Rattle.papergrid_values.specs.Lines.{all_lines}
 use Rattle.papergrid_values.specs.declared.position.Position.{Position}
+use Rattle.papergrid_tracks.specs.ForProofs.BySizing.{AreLeastSizes, AreLeastTooLarge}
 use Rattle.papergrid_tracks.specs.declared.demand.Demand.{Demand}
 use Rattle.papergrid_tracks.specs.declared.error.LayoutError.{LayoutError}
 use Rattle.papergrid_tracks.specs.declared.error.LayoutError.TheVariants.{OutOfTable, TooLarge, Memory}
@@ -22,7 +23,6 @@ use Rattle.papergrid_tracks.proofs.DrawnLemmas.{lines-drawn, sizes-drawn}
 use Rattle.papergrid_tracks.proofs.OutLemmas.{AreSizesTooLarge-large, large_any, out_kept, table_demands}
 use Rattle.papergrid_tracks.proofs.DemandLemmas.{base-kept, by_span-kept}
 use Rattle.papergrid_tracks.specs.declared.limits.Limits.{Limits}
-use Rattle.papergrid_tracks.specs.LeastAnswers.{AreLeastSizes, AreLeastTooLarge}
 use Rattle.papergrid_tracks.specs.LowestPositions.{lowest_position}
 use Rattle.papergrid_tracks.specs.TrackBoundaries.{net_minimum, boundaries_of, sizes_between}
 use Rattle.papergrid_tracks.specs.Least.{highest_position, least_of}

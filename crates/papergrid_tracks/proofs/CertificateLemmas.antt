@@ -54,7 +54,7 @@ module _ (problem : Problem) (kept : Demands) (is : AreGathered problem.count ke
   small-settled = elim (cases_Bool kept.is_large) [
     | inl large ↦
         let inside = sym (out_kept problem.count kept problem.demands is) ∙ first_out-none problem.count problem.demands (recursion_from_All (IsInTable problem.count) problem.demands table) in
-        let past = (AreSizesTooLarge-large problem.count kept problem.demands is problem.line inside large).too_large in
+        let past = (AreSizesTooLarge-large problem.count kept problem.demands is problem.line inside large).too_large _ refl in
         absurd (omega (arith, past, total))
     | inr small ↦ small
   ]

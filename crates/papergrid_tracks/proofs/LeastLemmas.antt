@@ -4,6 +4,7 @@ use Rattle.std.specs.Prelude.{All, None, ◌↔◌}
 use Rattle.std.proofs.lemmas.Grind.{same_number_lists}
 use Rattle.std.proofs.lemmas.List.FromFn.{fill_by_all}
 use Rattle.papergrid_values.specs.declared.position.Position.{Position}
+use Rattle.papergrid_tracks.specs.ForProofs.BySizing.{AreLeastSizes, AreLeastTooLarge}
 use Rattle.papergrid_tracks.specs.declared.demand.Demand.{Demand}
 use Rattle.papergrid_tracks.specs.Ranges.{IsInTable, IsLaminar, first_out, position_of}
 use Rattle.papergrid_values.specs.Lines.{all_lines}
@@ -13,7 +14,7 @@ use Rattle.papergrid_tracks.specs.Sizes.{sizes_of}
 use Rattle.papergrid_tracks.proofs.Theorems.{Fits-sizes_of, bound-sizes_of, IsLeast-sizes_of}
 use Rattle.papergrid_tracks.proofs.BoundLemmas.{bound-least_sizes}
 use Rattle.papergrid_tracks.proofs.Upto.{upto, sum-take}
-use Rattle.papergrid_tracks.specs.LeastAnswers.{AreLeastSizes, AreCriticalPath, AreLeastTooLarge}
+use Rattle.papergrid_tracks.specs.LeastAnswers.{AreCriticalPath}
 use Rattle.papergrid_tracks.specs.TrackBoundaries.{net_minimum, boundaries_of, AreBoundaries, sizes_between}
 use Rattle.papergrid_tracks.specs.LowestPositions.{lowest_position, least_total}
 use Rattle.papergrid_tracks.specs.Least.{AreFurthestRight, AreLeastBefore, highest_position, least_sizes, least_of}
@@ -200,7 +201,8 @@ module _ (problem : Problem) (table : All (IsInTable problem.count) problem.dema
       none_out = inside;
       exact = (furthest_right-is (least_of problem)).1 refl;
       total = small;
-      least = IsLeast-least_of;
+      fits = IsLeast-least_of.fits;
+      least = λ _. IsLeast-least_of;
       bound = λ i l. bound-least_of i (let one_each : length (least_of problem) ≡ problem.count = IsLeast-least_of.fits.one_each in omega arith);
     }
 
@@ -223,7 +225,12 @@ module _ (problem : Problem) (table : All (IsInTable problem.count) problem.dema
             c
 
     pub AreLeastTooLarge-by_all : ((other : List ℕ) → Fits problem other → IsTooLarge problem other) → AreLeastTooLarge problem
-    AreLeastTooLarge-by_all each = record { table = table; none_out = inside; others_too_large = each }
+    AreLeastTooLarge-by_all each = record {
+      table = table;
+      none_out = inside;
+      too_large = λ sizes exact. each sizes exact.among.least.fits;
+      others_too_large = λ _. each;
+    }
 
     pub AreLeastTooLarge-least_of : IsTooLarge problem (least_of problem) → AreLeastTooLarge problem
     AreLeastTooLarge-least_of large = AreLeastTooLarge-by_all ((refused-least problem (least_of problem) IsLeast-least_of).0 large)
@@ -233,7 +240,7 @@ pub exact-least : (problem : Problem) (sizes : List ℕ) → AreLeastSizes probl
 exact-least problem sizes are = (furthest_right-is problem are.table sizes).0 are.exact
 
 pub past-least : (problem : Problem) → AreLeastTooLarge problem → IsTooLarge problem (least_of problem)
-past-least problem are = are.others_too_large (least_of problem) (IsLeast-least_of problem are.table).fits
+past-least problem are = are.others_too_large tt (least_of problem) (IsLeast-least_of problem are.table).fits
 
 pub exact-critical_path : (problem : Problem) (positions : List Position) → AreCriticalPath problem positions → positions ≡ map position_of (critical_path problem)
 exact-critical_path problem positions are = are.exact ∙ ap (map position_of) ((path_back-is problem are.table are.cells).0 are.path)

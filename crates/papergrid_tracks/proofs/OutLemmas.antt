@@ -1,16 +1,16 @@
 -- The first cell out of the table, and minimum sizes past the greatest `usize`.
-use Rattle.std.proofs.Common.{Bool, List, [], ap, arith, false, inl, inr, map, nat_lt, refl, sum, sym, true, ℕ, ◌+◌, ◌||◌, ◌∙◌, ◌∷◌, ◌≡◌, ◌≤◌}
+use Rattle.std.proofs.Common.{Bool, List, [], ap, arith, false, inl, inr, map, nat_lt, refl, subst, sum, sym, true, ℕ, ◌+◌, ◌||◌, ◌∙◌, ◌∷◌, ◌≡◌, ◌≤◌}
 use Rattle.std.specs.Prelude.{Option, Some, None, is_some, All, if◌then◌else◌}
 use Rattle.std.specs.List.{list_any}
 use Rattle.std.proofs.lemmas.Bool.{false≢true, cases_Bool, ltb-false, leb-true}
 use Rattle.std.proofs.lemmas.List.Elements.{All-nil, All-cons, All-head, All-tail}
+use Rattle.papergrid_tracks.specs.ForProofs.BySizing.{AreSizesTooLarge}
 use Rattle.papergrid_tracks.specs.Problem.{problem_of_demands}
 use Rattle.papergrid_values.specs.Lines.{all_lines}
 use Rattle.papergrid_tracks.specs.declared.demand.Demand.{Demand}
 use Rattle.papergrid_tracks.specs.declared.demands.Demands.{Demands}
-use Rattle.papergrid_tracks.specs.Answers.{AreSizesTooLarge}
 use Rattle.papergrid_tracks.specs.Ranges.{IsInTable, end_of, first_out, position_of}
-use Rattle.papergrid_tracks.specs.Fits.{HasRoom}
+use Rattle.papergrid_tracks.specs.Fits.{HasRoom, IsTooLarge}
 use Rattle.papergrid_tracks.specs.ForProofs.Demands.{AreGathered, is_large, rest_of, without_minimum}
 use Rattle.papergrid_tracks.specs.Sizes.{sizes_of}
 use Rattle.papergrid_tracks.proofs.LoopLemmas.{large_minimum}
@@ -62,7 +62,8 @@ module _ (n : ℕ) (kept : Demands) (demands : List Demand) (is : AreGathered n 
       let any = sym is.held.large ∙ large in
       let problem = problem_of_demands line n demands in
       record {
+        table = table;
         none_out = out_kept ∙ inside;
-        too_large = large_any line n (sizes_of problem) demands any table (Fits-sizes_of (problem_of_demands line n demands) table).room;
+        too_large = λ sizes exact. subst (IsTooLarge problem) (sym exact) (large_any line n (sizes_of problem) demands any table (Fits-sizes_of (problem_of_demands line n demands) table).room);
         others_too_large = λ laminar other fits. large_any line n other demands any table fits.room;
       }

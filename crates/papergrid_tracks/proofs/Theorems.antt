@@ -4,8 +4,8 @@ use Rattle.std.specs.Prelude.{All, Contains, None}
 use Rattle.std.specs.List.{AllByRecursion}
 use Rattle.std.proofs.lemmas.Bool.{cases_lt}
 use Rattle.std.proofs.lemmas.List.Elements.{All-contains, All-weaker, All-from_recursion, recursion_from_All}
+use Rattle.papergrid_tracks.specs.ForProofs.BySizing.{AreSizes, AreSizesTooLarge}
 use Rattle.papergrid_tracks.specs.declared.demand.Demand.{Demand}
-use Rattle.papergrid_tracks.specs.Answers.{AreSizes, AreSizesTooLarge}
 use Rattle.papergrid_tracks.specs.Problem.{Problem, total_of}
 use Rattle.papergrid_values.specs.Lines.{all_lines}
 use Rattle.papergrid_tracks.specs.Ranges.{IsInTable, IsLaminar, end_of, first_out}
@@ -67,6 +67,7 @@ module _ (problem : Problem) (table : All (IsInTable problem.count) problem.dema
   pub AreSizes-sizes_of : (sizes : List ℕ) → sizes ≡ sizes_of problem → total_of problem (sizes_of problem) < 18446744073709551616 →
       AreSizes problem sizes
   AreSizes-sizes_of sizes e small = subst (AreSizes problem) (sym e) record {
+    table = table;
     none_out = none_out;
     exact = refl;
     total = small;
@@ -82,7 +83,8 @@ module _ (problem : Problem) (table : All (IsInTable problem.count) problem.dema
         | inr le ↦ le
       ] in
       record {
+        table = table;
         none_out = none_out;
-        too_large = large;
+        too_large = λ sizes exact. subst (IsTooLarge problem) (sym exact) large;
         others_too_large = λ disjoint other fits. others_too_large-sizes_of disjoint large other fits;
       }

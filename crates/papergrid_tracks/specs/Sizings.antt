@@ -1,5 +1,5 @@
 -- What an answer says, by how the sizes are chosen.
-use Rattle.std.specs.Prelude.{◌≡◌, ℕ, Bool, false, true, List, Result, Ok, Err, Option, None, Some, option_map, Vec, ⊤}
+use Rattle.std.specs.Prelude.{◌≡◌, ◌^◌, ◌<◌, ◌≤◌, ℕ, All, Bool, EachIndex, false, slice_index, true, List, Result, Ok, Err, Option, None, Some, option_map, Vec, ⊤}
 use Rattle.std.specs.declared.alloc.Global.{Global}
 use Rattle.papergrid_values.specs.declared.position.Position.{Position}
 use Rattle.papergrid_tracks.specs.declared.error.LayoutError.{LayoutError}
@@ -7,20 +7,40 @@ use Rattle.papergrid_tracks.specs.declared.error.LayoutError.TheVariants.{OutOfT
 use Rattle.papergrid_tracks.specs.declared.sizing.Sizing.{Sizing}
 use Rattle.papergrid_tracks.specs.declared.sizing.Sizing.TheVariants.{ByShares, Least}
 use Rattle.papergrid_tracks.specs.declared.solution.Solved.{Solved}
-use Rattle.papergrid_tracks.specs.Answers.{AreCertifying, AreSizes, AreSizesTooLarge, NoneCertify}
-use Rattle.papergrid_tracks.specs.LeastAnswers.{AreCriticalPath, AreLeastSizes, AreLeastTooLarge}
+use Rattle.papergrid_tracks.specs.Answers.{AreCertifying, NoneCertify}
+use Rattle.papergrid_tracks.specs.Fits.{Fits, IsLeast, IsTooLarge, top_minimum}
+use Rattle.papergrid_tracks.specs.Least.{AreFurthestRight}
+use Rattle.papergrid_tracks.specs.LeastAnswers.{AreCriticalPath}
 use Rattle.papergrid_tracks.specs.Problem.{Problem, total_of}
-use Rattle.papergrid_tracks.specs.Ranges.{first_out}
+use Rattle.papergrid_tracks.specs.Ranges.{IsInTable, IsLaminar, first_out}
+use Rattle.papergrid_tracks.specs.Sizes.{sizes_of}
 
--- exactly the sizes by shares, or the least sizes, and what holds of them
-abbrev pub AreSizesBy : Sizing → Problem → List ℕ → Type 0
-AreSizesBy ByShares = AreSizes
-AreSizesBy Least = AreLeastSizes
+-- exactly the sizes by shares, or the least ones that are furthest right
+abbrev pub AreExact : Sizing → Problem → List ℕ → Type 0
+AreExact ByShares problem sizes = sizes ≡ sizes_of problem
+AreExact Least problem sizes = AreFurthestRight problem sizes
 
--- by shares the sizes are too large; of least sizes, so is every list that fits
-abbrev pub AreTooLargeBy : Sizing → Problem → Type 0
-AreTooLargeBy ByShares = AreSizesTooLarge
-AreTooLargeBy Least = AreLeastTooLarge
+-- where they are least: by shares where longer ranges are nested or disjoint
+abbrev pub MustBeLeast : Sizing → Problem → Type 0
+MustBeLeast ByShares problem = IsLaminar problem.demands
+MustBeLeast Least problem = ⊤
+
+-- the sizes that are chosen so, and what holds of them
+pub record AreSizesBy (sizing : Sizing) (problem : Problem) (sizes : List ℕ) : Type 0 where
+  pub table : All (IsInTable problem.count) problem.demands
+  pub none_out : first_out problem.count problem.demands ≡ None
+  pub exact : AreExact sizing problem sizes
+  pub total : total_of problem sizes < 2 ^ 64
+  pub fits : Fits problem sizes
+  pub bound : EachIndex sizes (λ i. slice_index sizes i ≤ top_minimum problem.demands i)
+  pub least : MustBeLeast sizing problem → IsLeast problem sizes
+
+-- they are too large, and where they are least so is every list that fits
+pub record AreTooLargeBy (sizing : Sizing) (problem : Problem) : Type 0 where
+  pub table : All (IsInTable problem.count) problem.demands
+  pub none_out : first_out problem.count problem.demands ≡ None
+  pub too_large : (sizes : List ℕ) → AreExact sizing problem sizes → IsTooLarge problem sizes
+  pub others_too_large : MustBeLeast sizing problem → (other : List ℕ) → Fits problem other → IsTooLarge problem other
 
 -- why there are no sizes: out of the table by the first cell that overflows it, else too large. An allocation may fail in
 -- place of any answer

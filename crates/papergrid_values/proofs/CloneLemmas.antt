@@ -1,8 +1,7 @@
 -- Borders of clones, where clones equal their originals.
 use Rattle.std.proofs.Common.{◌≡◌, ap, Bor}
-use Rattle.std.specs.Prelude.{Option, Some, None, MatchOption, IsSomeAnd}
+use Rattle.std.specs.Prelude.{Option, Some, None, MatchOption, IsSomeAnd, option_copied}
 use Rattle.std.specs.List.{AllZip}
-use Rattle.std.specs.Option.{option_map}
 use Rattle.papergrid_values.specs.Borders.{border_parts, frame_parts}
 use Rattle.papergrid_values.specs.declared.border.Border.{Border}
 use Rattle.papergrid_values.specs.declared.borders.Borders.{Borders}
@@ -11,7 +10,7 @@ use Rattle.papergrid_values.specs.declared.borders.Borders.{Borders}
 pub lent_part : {T : Type 0} (R : T → T → Type 0) (part : Option (Bor T)) (copy : Option T)
     → ((x y : T) → R x y → y ≡ x)
     → MatchOption part (copy ≡ None) (λ x. IsSomeAnd copy (R x.now))
-    → copy ≡ option_map (λ x. x.now) part
+    → copy ≡ option_copied part
 lent_part R None copy same clones = clones
 lent_part R (Some x) None same clones = absurd clones
 lent_part R (Some x) (Some y) same clones = ap Some (same x.now y clones)

@@ -3,7 +3,7 @@ use Rattle.std.proofs.Common.{◌≡◌, ◌∙◌, ap, sym, refl, ℕ, suc, ◌
 use Rattle.std.specs.List.{range_with_len, flat_map}
 use Rattle.papergrid_values.specs.declared.entity.Entity.{Entity}
 use Rattle.papergrid_values.specs.declared.entity.Entity.TheVariants.{Global, Column}
-use Rattle.papergrid_values.specs.Entities.{numbers_below, positions_in, row_from, rows_from}
+use Rattle.papergrid_values.specs.Entities.{positions_in, row_from, rows_from}
 use Rattle.papergrid_values.specs.Positions.{position_of}
 use Rattle.papergrid_values.specs.declared.position.Position.{Position}
 
@@ -31,10 +31,10 @@ rows_from-global rows cols =
     let no_rows : rows - 0 ≡ rows = omega arith in
     let no_cols : cols - 0 ≡ cols = omega arith in
     ap (λ n. flat_map (λ r. row_from Global cols r 0) (range_with_len 0 n)) no_rows
-    ∙ ap (λ n. flat_map (λ row. map (λ col. at row col) (range_with_len 0 n)) (numbers_below rows)) no_cols
+    ∙ ap (λ n. flat_map (λ row. map (λ col. at row col) (range_with_len 0 n)) (range_with_len 0 rows)) no_cols
 
 pub rows_from-column : (rows col : ℕ) → rows_from (Column col) 1 rows 0 ≡ positions_in (Column col) rows 1
 rows_from-column rows col =
     let no_rows : rows - 0 ≡ rows = omega arith in
     ap (λ n. flat_map (λ row. at row col ∷ []) (range_with_len 0 n)) no_rows
-    ∙ flat_map-single (λ row. at row col) (numbers_below rows)
+    ∙ flat_map-single (λ row. at row col) (range_with_len 0 rows)

@@ -1,6 +1,5 @@
 -- The parts of a cell's border and of a table's frame, and their queries.
 use Rattle.std.specs.Prelude.{Bool, List, [], ◌∷◌, Option}
-use Rattle.std.specs.Option.{option_map}
 use Rattle.papergrid_values.specs.declared.border.Border.{Border}
 use Rattle.papergrid_values.specs.declared.borders.Borders.{Borders}
 use Rattle.papergrid_values.specs.Parts.{any_set}
@@ -22,19 +21,6 @@ border_with part = record {
   left_bottom_corner = part;
   right_top_corner = part;
   right_bottom_corner = part;
-}
-
--- the border with f of each part that is set
-abbrev pub border_map : {A B : Type 0} → (A → B) → Border A → Border B
-border_map f b = record {
-  top = option_map f b.top;
-  bottom = option_map f b.bottom;
-  left = option_map f b.left;
-  right = option_map f b.right;
-  left_top_corner = option_map f b.left_top_corner;
-  left_bottom_corner = option_map f b.left_bottom_corner;
-  right_top_corner = option_map f b.right_top_corner;
-  right_bottom_corner = option_map f b.right_bottom_corner;
 }
 
 -- the fifteen parts of a frame, in the order of the fields

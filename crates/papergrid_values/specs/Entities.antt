@@ -7,16 +7,12 @@ use Rattle.papergrid_values.specs.declared.entity_iterator.EntityIterator.{Entit
 use Rattle.papergrid_values.specs.Positions.{position_of}
 use Rattle.papergrid_values.specs.declared.position.Position.{Position}
 
--- the numbers below n, upwards
-abbrev pub numbers_below : ℕ → List ℕ
-numbers_below n = range_with_len 0 n
-
 -- the positions of an entity where there are so many rows and columns, and neither number is 0
 abbrev pub positions_in : Entity → ℕ → ℕ → List Position
 positions_in Global rows cols =
-    flat_map (λ row. map (λ col. position_of (row, col)) (numbers_below cols)) (numbers_below rows)
-positions_in (Column col) rows cols = map (λ row. position_of (row, col)) (numbers_below rows)
-positions_in (Row row) rows cols = map (λ col. position_of (row, col)) (numbers_below cols)
+    flat_map (λ row. map (λ col. position_of (row, col)) (range_with_len 0 cols)) (range_with_len 0 rows)
+positions_in (Column col) rows cols = map (λ row. position_of (row, col)) (range_with_len 0 rows)
+positions_in (Row row) rows cols = map (λ col. position_of (row, col)) (range_with_len 0 cols)
 positions_in (Cell row col) rows cols = position_of (row, col) ∷ []
 
 -- the same, and none where a count is 0; an entity's own numbers are not compared with the counts

@@ -1,10 +1,10 @@
 //! The border of a cell. Source: `config/border.rs`.
 
-ghost use Rattle.std.specs.Prelude.{◌≡◌, ◌↔◌, ◌∷◌, [], Some, None, true, IsTrue, IsOk, IfOk};
+ghost use Rattle.std.specs.Prelude.{◌≡◌, ◌↔◌, ◌∷◌, [], Some, None, map, option_copied, true, IsTrue, IsOk, IfOk};
 ghost use Rattle.std.specs.List.{AllPairs, AllZip};
 ghost use Rattle.std.specs.Option.{option_eq};
 ghost use Rattle.papergrid_values.specs.Parts.{any_set, none_set, EachSet, PartsGive};
-ghost use Rattle.papergrid_values.specs.Borders.{border_parts, border_with, border_map};
+ghost use Rattle.papergrid_values.specs.Borders.{border_parts, border_with};
 
 use crate::parts::{clone_part, cloned_part};
 use std::alloc::AllocError;
@@ -236,7 +236,7 @@ impl<T> Border<&T> {
     pub fn copied(&self) -> Border<T>
     where
         T: Copy,
-        ensures { result ≡ border_map (λ part. part.now) self.now }
+        ensures { border_parts result ≡ map option_copied (border_parts self.now) }
     {
         Border {
             top: self.top.copied(),
@@ -259,7 +259,8 @@ impl<T> Border<&T> {
             PartsGive (λ part copy. T.is_clone part.now copy)
             (border_parts self.now) (border_parts border)) }
         ensures equal { ((x y : T) → T.is_clone x y → y ≡ x) →
-            IfOk result (λ border. border ≡ border_map (λ part. part.now) self.now) }
+            IfOk result (λ border.
+            border_parts border ≡ map option_copied (border_parts self.now)) }
         ensures succeeds { EachSet (λ part. T.is_infallible part.now) (border_parts self.now) →
             IsOk result }
     {

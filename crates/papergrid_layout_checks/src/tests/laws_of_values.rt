@@ -37,7 +37,8 @@ fn laws_of_maps() {
     maps::visible_by_rectangles();
     maps::equal_maps_by_history::<char>();
     maps::visible_where_not_hidden();
-    maps::spans_by_index();
+    maps::one_effective_span();
+    maps::one_effective_value::<char>();
     maps::equal_maps::<char>();
     maps::equal_spans();
     maps::equal_clones::<char>();

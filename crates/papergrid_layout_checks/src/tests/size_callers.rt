@@ -1,8 +1,7 @@
 //! Callers that know their rows: the contracts suffice for an exact answer.
 
 ghost use Rattle.std.specs.Prelude.{IfOk};
-ghost use Rattle.papergrid_tracks.specs.Answers.{AreSizes};
-ghost use Rattle.papergrid_tracks.specs.Sizings.{IsTotal};
+ghost use Rattle.papergrid_tracks.specs.Sizings.{AreSizesBy, IsTotal};
 ghost use Rattle.papergrid_tracks.specs.declared.sizing.Sizing.TheVariants as sizings;
 ghost use Rattle.papergrid_layout_checks.specs.Strings.{columns_problem};
 
@@ -16,7 +15,8 @@ pub fn of_held(
     records: VecRecords<String>,
     config: &SpannedConfig,
 ) -> Result<Vec<usize>, LayoutError>
-    ensures { IfOk result (λ widths. AreSizes (columns_problem config.now records) widths.items) }
+    ensures { IfOk result (λ widths.
+        AreSizesBy sizings.ByShares (columns_problem config.now records) widths.items) }
 {
     IterGridDimension::width(alloc, records, config)
 }
@@ -27,7 +27,7 @@ pub fn of_lent(
     config: &SpannedConfig,
 ) -> Result<Vec<usize>, LayoutError>
     ensures { IfOk result (λ widths.
-        AreSizes (columns_problem config.now records.now) widths.items) }
+        AreSizesBy sizings.ByShares (columns_problem config.now records.now) widths.items) }
 {
     IterGridDimension::width(alloc, records, config)
 }

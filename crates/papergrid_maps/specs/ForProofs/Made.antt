@@ -3,7 +3,8 @@ use Rattle.std.specs.Prelude.{List, [], ◌∷◌, flat_map, reverse}
 use Rattle.papergrid_values.specs.declared.position.Position.{Position}
 use Rattle.papergrid_values.specs.Tabulated.{tabulation}
 use Rattle.papergrid_values.specs.declared.direction.Direction.TheVariants.{Columns, Rows}
-use Rattle.papergrid_maps.specs.Spans.{SetSpan, SpanCall, Spans, effective_span, from_two}
+use Rattle.papergrid_maps.specs.Spans.{SetSpan, SpanCall, Spans, from_two}
+use Rattle.papergrid_maps.specs.ForProofs.SpanSearch.{effective_span}
 
 -- the position whose span a call sets
 abbrev pub named_anchors : SpanCall → List Position

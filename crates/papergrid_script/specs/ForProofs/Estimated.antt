@@ -10,12 +10,8 @@ use Rattle.papergrid_tracks.specs.Sizes.{sizes_of}
 use Rattle.papergrid_tracks.specs.Least.{least_of}
 use Rattle.papergrid_tracks.specs.CriticalPath.{critical_path}
 use Rattle.papergrid_walk.specs.Cells.{problem_of}
-use Rattle.papergrid_maps.specs.Grids.{Grid, size_after, size_before}
-use Rattle.papergrid_maps.specs.Spans.{is_visible, span_along}
-use Rattle.papergrid_config.specs.Effective as effective
-use Rattle.papergrid_config.specs.ForProofs.Made.{characters_of, spans_of}
-use Rattle.papergrid_config.specs.Grids.{line_along}
-use Rattle.papergrid_config.specs.declared.setting.Setting.{Setting}
+use Rattle.papergrid_maps.specs.Grids.{Grid}
+use Rattle.papergrid_config.specs.ForProofs.Made.{grid_of}
 use Rattle.papergrid_walk.specs.Measures.{text_measure}
 use Rattle.papergrid_layout.specs.Answers.{first_out_of_table}
 use Rattle.papergrid_layout.specs.Certificates.{Solution, certificate_by_shares}
@@ -24,16 +20,6 @@ use Rattle.papergrid_tracks.specs.declared.sizing.Sizing.TheVariants.{ByShares, 
 use Rattle.papergrid_script.specs.Estimates.{Estimate, OutOfTable, TooLarge, Sized}
 use Rattle.papergrid_script.specs.Outputs.{BadLine, Estimated, Outcome}
 use Rattle.papergrid_script.specs.Scripts.{Table}
-
--- the grid that settings decide
-unfoldable pub grid_of : List Setting → Grid
-grid_of settings = record {
-  shows = is_visible (spans_of settings);
-  span = span_along (spans_of settings);
-  before = λ direction p. size_before direction (effective.padding settings p);
-  after = λ direction p. size_after direction (effective.padding settings p);
-  draws = line_along (characters_of settings);
-}
 
 -- what is found, or too large where a total is past the greatest `usize`
 abbrev pub unless_large : PerDirection Solution → Estimate

@@ -1,10 +1,10 @@
 use Rattle.std.specs.Prelude.{string_bytes}
-use Rattle.papergrid_tracks.specs.Answers.{AreSizes}
 use Rattle.papergrid_values.specs.declared.direction.Direction.TheVariants.{Columns}
 use Rattle.papergrid_config.specs.Grids.{spanned_grid}
 use Rattle.papergrid_walk.specs.Measures.{line_measure}
 use Rattle.papergrid_checks.specs.Rows.{cells_of}
 use Rattle.papergrid_checks.proofs.RowLemmas.{answers_told}
+use Rattle.papergrid_tracks.specs.ForProofs.BySizing.{AreSizes}
 use Rattle.papergrid_tracks.specs.declared.sizing.Sizing.TheVariants.{ByShares}
 use Rattle.papergrid_checks.proofs.cells.of_people.Goals as goal
 

@@ -1,6 +1,6 @@
+use Rattle.papergrid_tracks.specs.ForProofs.BySizing.{AreSizes}
 use Rattle.std.proofs.Common.{◌≡◌, ◌<◌, ◌∙◌, arith, length}
 use Rattle.std.proofs.lemmas.List.{length-map}
-use Rattle.papergrid_tracks.specs.Answers.{AreSizes}
 use Rattle.papergrid_config.specs.Grids.{spanned_grid}
 use Rattle.papergrid_checks.specs.Rows.{cells_of, lent_measure}
 use Rattle.papergrid_checks.proofs.RowLemmas.{both_told}

@@ -10,5 +10,4 @@ apply_all-requires c = subst AreInRange (sym (each_same c.args.settings.now.item
 pub returns-in-Ok : goal.returns-in-Ok
 returns-in-Ok c =
     let same = each_same c.args.settings.now.items c.in_ok-copies.copies.items c.in_ok-copies.ensures.cases.0 in
-    let told = subst (λ settings. HasSettingHistory settings c.apply_all.new.self) same (c.in-Ok.ensures.ok [] c.new-config.ensures) in
-    record { told = told; effective = c.history_decides.ensures _ _ told }
+    subst (λ settings. HasSettingHistory settings c.apply_all.new.self) same (c.in-Ok.ensures.ok [] c.new-config.ensures)

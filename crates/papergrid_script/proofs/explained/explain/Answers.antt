@@ -1,7 +1,7 @@
-use Rattle.std.proofs.Common.{◌≡◌, ap}
+use Rattle.std.proofs.Common.{ap}
 use Rattle.std.specs.Prelude.{Option, Some}
 use Rattle.papergrid_script.specs.Outputs.{BadLine}
-use Rattle.papergrid_script.specs.Reasons.{outcome_reason}
+use Rattle.papergrid_script.specs.Reasons.{IsOutcomeReason}
 use Rattle.papergrid_script.specs.Seen.{table_seen}
 use Rattle.papergrid_script.specs.declared.explained.Reason.{Reason}
 use Rattle.papergrid_script.specs.declared.explained.Reason.TheVariants as reason
@@ -16,4 +16,4 @@ returns-in-Err-Bad c =
 pub returns : goal.returns
 returns c =
     let is = rw c.in-Ok.is at c.read_script.ensures.script in
-    of-estimate c.args.sizing c.args.input.now (table_seen c.in-Ok.script) is (λ (why : Option Reason) outcome. why ≡ outcome_reason outcome) c.table_reason.result c.table_reason.ensures
+    of-estimate c.args.sizing c.args.input.now (table_seen c.in-Ok.script) is (λ (why : Option Reason) outcome. IsOutcomeReason outcome why) c.table_reason.result c.table_reason.ensures

@@ -1,15 +1,16 @@
-use Rattle.std.proofs.Common.{◌≡◌, ap, refl, ◌∙◌, sym}
+use Rattle.std.proofs.Common.{ap, refl, ◌∙◌, subst, sym}
 use Rattle.std.specs.Prelude.{Some, flat_map, map}
 use Rattle.std.proofs.lemmas.List.{length-map}
 use Rattle.papergrid_values.specs.declared.direction.Direction.TheVariants.{Columns, Rows}
 use Rattle.papergrid_config.specs.Parts.{span_calls}
 use Rattle.papergrid_layout.specs.Certificates.{solutions_of}
 use Rattle.papergrid_script.specs.Estimates.{OutOfTable, Sized, TooLarge}
-use Rattle.papergrid_script.specs.Reasons.{estimate_reason}
-use Rattle.papergrid_script.specs.Seen.{table_seen, row_texts_of}
+use Rattle.papergrid_script.specs.Seen.{row_texts_of}
 use Rattle.papergrid_script.specs.Settings.{setting_told}
 use Rattle.papergrid_script.specs.declared.explained.Reason.TheVariants as reason
-use Rattle.papergrid_script.proofs.GridLemmas.{span-effective}
+use Rattle.papergrid_maps.specs.Spans.{IsEffectiveSpan}
+use Rattle.papergrid_maps.proofs.EffectiveSpanLemmas.{effective_span-IsEffectiveSpan}
+use Rattle.papergrid_config.proofs.SettingGridLemmas.{span-effective}
 use Rattle.papergrid_script.proofs.SeenLemmas.{gives_seen}
 use Rattle.papergrid_script.proofs.explained.table_reason.Goals as goal
 
@@ -29,9 +30,10 @@ returns-in-Err-OutOfTable c =
     let down = c.spans_at-spans.ensures.rows ∙ span Rows position in
     let across = c.spans_at-spans.ensures.columns ∙ span Columns position in
     let rows = c.len-count.ensures ∙ script.rows.ok.0 ∙ sym (length-map script.rows.items (λ row. row_texts_of row.now)) in
-    let told : Some (reason.OutOfTable position c.spans_at-spans.result (c.len-count.result, script.columns)) ≡ estimate_reason (table_seen script) (OutOfTable position) =
-    λ i. Some (reason.OutOfTable position (down i, across i) (rows i, script.columns)) in
-    (OutOfTable position, is, told)
+    let calls = flat_map span_calls (map setting_told script.settings.items) in
+    let down-is = subst (IsEffectiveSpan Rows position calls) (sym down) (effective_span-IsEffectiveSpan Rows position calls) in
+    let across-is = subst (IsEffectiveSpan Columns position calls) (sym across) (effective_span-IsEffectiveSpan Columns position calls) in
+    (OutOfTable position, is, (_, _, down-is, across-is, λ i. Some (reason.OutOfTable position c.spans_at-spans.result (rows i, script.columns))))
 
 pub returns-in-Err-TooLarge : goal.returns-in-Err-TooLarge
 returns-in-Err-TooLarge c =

@@ -15,7 +15,10 @@ returns-clause-ok c =
 pub returns-clause-err : goal.returns-clause-err
 returns-clause-err c =
     let t = c.args.self.now in
-    let kept = c.self.invariant in
-    never-too-large (view_of t) (subst (λ (t : TableParts). (direction : Direction) → total_along (view_of t) direction < 2 ^ 64) c.self.view_is kept.fit) c.places.result
-    (subst (λ config. IfErr c.places.result (ArePlacesRefused (table_by config (slice_index t.widths) (slice_index t.heights) (length t.heights, length t.widths))))
-    (ap (λ (t : TableParts). t.config) c.self.view_is) (rw c.shape.ensures at c.places.ensures.err))
+    subst (λ config. IfErr c.places.result (ArePlacesRefused (table_by config (slice_index t.widths) (slice_index t.heights) (length t.heights, length t.widths))))
+    (ap (λ (t : TableParts). t.config) c.self.view_is) (rw c.shape.ensures at c.places.ensures.err)
+
+pub returns-clause-never_large : goal.returns-clause-never_large
+returns-clause-never_large c =
+    never-too-large (view_of c.args.self.now) (subst (λ (t : TableParts). (direction : Direction) → total_along (view_of t) direction < 2 ^ 64) c.self.view_is c.self.invariant.fit) c.places.result
+    (returns-clause-err c)

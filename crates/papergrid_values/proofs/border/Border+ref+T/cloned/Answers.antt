@@ -1,4 +1,5 @@
 -- Where clones equal their originals, each part is the one lent.
+use Rattle.std.proofs.Common.{◌∷◌, []}
 use Rattle.papergrid_values.proofs.CloneLemmas.{lent_part}
 use Rattle.papergrid_values.proofs.border.Border+ref+T.cloned.Goals as goal
 
@@ -13,13 +14,5 @@ returns-clause-equal g c = λ same i.
     let part_3 = c.cloned_part-3.ensures.clones part_4.0 in
     let part_2 = c.cloned_part-2.ensures.clones part_3.0 in
     let part_1 = c.cloned_part.ensures.clones part_2.0 in
-    record {
-      top = lent_part R _ _ same part_1.1 i;
-      bottom = lent_part R _ _ same part_2.1 i;
-      left = lent_part R _ _ same part_3.1 i;
-      right = lent_part R _ _ same part_4.1 i;
-      left_top_corner = lent_part R _ _ same part_5.1 i;
-      left_bottom_corner = lent_part R _ _ same part_6.1 i;
-      right_top_corner = lent_part R _ _ same part_7.1 i;
-      right_bottom_corner = lent_part R _ _ same part_8.1 i;
-    }
+    lent_part R _ _ same part_1.1 i ∷ lent_part R _ _ same part_2.1 i ∷ lent_part R _ _ same part_3.1 i ∷ lent_part R _ _ same part_4.1 i
+    ∷ lent_part R _ _ same part_5.1 i ∷ lent_part R _ _ same part_6.1 i ∷ lent_part R _ _ same part_7.1 i ∷ lent_part R _ _ same part_8.1 i ∷ []

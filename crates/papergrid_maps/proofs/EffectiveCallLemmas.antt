@@ -1,4 +1,4 @@
--- The search for the deciding call finds the one that decides by its index.
+-- The search for the deciding call finds the one that decides by its index, and a map holds what it finds.
 use Rattle.std.proofs.Common.{◌≡◌, ◌⊎◌, ◌<◌, ◌≤◌, ◌+◌, ◌&&◌, ◌∷◌, [], ℕ, zero, suc, List, Bool, true, false, cond, Option, Some, None, length, take, get_or, reverse, refl, sym, ap, ◌∙◌, subst, arith, inl, inr, nat_eq}
 use Rattle.std.specs.Prelude.{find, slice_get, is_some, unwrap_or}
 use Rattle.std.proofs.lemmas.Bool.{and_parts}
@@ -11,8 +11,9 @@ use Rattle.papergrid_values.specs.declared.entity.Entity.TheVariants.{Global, Co
 use Rattle.papergrid_maps.specs.declared.entity_map.MapCall.{MapCall}
 use Rattle.papergrid_maps.specs.declared.entity_map.MapCall.TheVariants.{Insert, Remove}
 use Rattle.papergrid_maps.specs.Keys.{entity_eq}
-use Rattle.papergrid_maps.specs.MapCalls.{effective_value, global_value, cell_override_value, standing_value}
-use Rattle.papergrid_config.specs.EffectiveCall.{concerns, sets_all, ends_overrides, IsLast, EntityStands, IsCellOverride, OverrideStands, TableStands, OrElse, IsEffective}
+use Rattle.papergrid_maps.specs.EffectiveCall.{concerns, sets_all, ends_overrides, EntityStands, IsCellOverride, IsEffective, IsFound, IsGlobal, IsLast, OrElse, OverrideStands}
+use Rattle.papergrid_maps.specs.ForProofs.MapSearch.{HasMapSearch, cell_override_value, effective_value, global_value, standing_value}
+use Rattle.papergrid_maps.specs.StoredMap.{HasMapHistory, Stored}
 
 -- nothing has P
 abbrev NoneHas : {T : Type 0} → (T → Type 0) → Type 0
@@ -129,6 +130,16 @@ same_entity d e h = cc
 -- ---- indices in the list
 
 module _ {T : Type 0} (calls : List (MapCall T)) where
+  -- after the first n calls the whole table has a value: the last of them that sets it sets it so
+  abbrev TableStands : ℕ → T → Type 0
+  TableStands n v = (i : ℕ) × IsLast calls sets_all n i (Insert Global v)
+
+  -- the value that the first n calls decide for the cell
+  abbrev EffectiveOf : T → ℕ → ℕ → ℕ → T → Type 0
+  EffectiveOf given r c n =
+      OrElse (OverrideStands calls r c n) (OrElse (EntityStands calls (Column c) n) (OrElse (EntityStands calls (Row r) n)
+      (OrElse (TableStands n) (λ v. v ≡ given))))
+
   -- the first n calls, newest first
   abbrev newest : ℕ → List (MapCall T)
   newest n = reverse (take n calls)
@@ -205,14 +216,14 @@ module _ {T : Type 0} (calls : List (MapCall T)) where
   entity_is e not_all n v within h =
       entity_found e (newest n) ∙ ap entity_set (last_find (concerns e) n h.0 (Insert e v) within h.1 (concerns_itself e v)) ∙ set_itself e v not_all
 
-  table_is : (given : T) (n : ℕ) (v : T) → n ≤ length calls → TableStands calls n v → global_value given (newest n) ≡ v
+  table_is : (given : T) (n : ℕ) (v : T) → n ≤ length calls → TableStands n v → global_value given (newest n) ≡ v
   table_is given n v within h = table_found given (newest n) ∙ ap (table_set given) (last_find sets_all n h.0 (Insert Global v) within h.1 refl)
 
   -- it stands, or none does and the value given at first is left
-  table_stands : (given : T) (n : ℕ) → n ≤ length calls → TableStands calls n (global_value given (newest n)) ⊎ (NoneHas (TableStands calls n) × (global_value given (newest n) ≡ given))
+  table_stands : (given : T) (n : ℕ) → n ≤ length calls → TableStands n (global_value given (newest n)) ⊎ (NoneHas (TableStands n) × (global_value given (newest n) ≡ given))
   table_stands given n within = of_found (find sets_all (newest n)) refl
     where
-      of_found : (o : Option (MapCall T)) → find sets_all (newest n) ≡ o → TableStands calls n (global_value given (newest n)) ⊎ (NoneHas (TableStands calls n) × (global_value given (newest n) ≡ given))
+      of_found : (o : Option (MapCall T)) → find sets_all (newest n) ≡ o → TableStands n (global_value given (newest n)) ⊎ (NoneHas (TableStands n) × (global_value given (newest n) ≡ given))
       of_found None e = inr (λ w h. none-some _ (sym e ∙ last_find sets_all n h.0 (Insert Global w) within h.1 refl), table_found given (newest n) ∙ ap (table_set given) e)
       of_found (Some (Insert Global v)) e =
           let last = find_last sets_all n (Insert Global v) within e in
@@ -225,6 +236,10 @@ module _ {T : Type 0} (calls : List (MapCall T)) where
       of_found (Some (Remove (Column k))) e = let last = find_last sets_all n (Remove (Column k)) within e in cc
       of_found (Some (Remove (Row k))) e = let last = find_last sets_all n (Remove (Row k)) within e in cc
       of_found (Some (Remove (Cell k j))) e = let last = find_last sets_all n (Remove (Cell k j)) within e in cc
+
+  global_is : (given : T) (n : ℕ) (v : T) → n ≤ length calls → OrElse (TableStands n) (λ w. w ≡ given) v → global_value given (newest n) ≡ v
+  global_is given n v within (inl table) = table_is given n v within table
+  global_is given n v within (inr no_table) = elim (table_stands given n within) [ inl table ↦ absurd (no_table.0 _ table) | inr left ↦ left.1 ∙ sym no_table.1 ]
 
   -- ---- overrides
 
@@ -336,26 +351,26 @@ module _ {T : Type 0} (calls : List (MapCall T)) where
   abbrev found_by : T → ℕ → ℕ → ℕ → T
   found_by given r c n = decided_by given (newest n) (record { row = r; col = c })
 
-  is_effective : (given : T) (r c n : ℕ) → n ≤ length calls → IsEffective calls given r c n (found_by given r c n)
+  is_effective : (given : T) (r c n : ℕ) → n ≤ length calls → EffectiveOf given r c n (found_by given r c n)
   is_effective given r c n within = by_cell_override (cell_override_value r c (newest n)) refl
     where
-      by_table : NoneHas (OverrideStands calls r c n) → NoneHas (EntityStands calls (Column c) n) → NoneHas (EntityStands calls (Row r) n) → IsEffective calls given r c n (global_value given (newest n))
+      by_table : NoneHas (OverrideStands calls r c n) → NoneHas (EntityStands calls (Column c) n) → NoneHas (EntityStands calls (Row r) n) → EffectiveOf given r c n (global_value given (newest n))
       by_table no_cell_override no_column no_row = elim (table_stands given n within) [
         | inl table ↦ inr (no_cell_override, inr (no_column, inr (no_row, inl table)))
         | inr none ↦ inr (no_cell_override, inr (no_column, inr (no_row, inr none)))
       ]
 
-      by_row : (o : Option T) → standing_value (Row r) (newest n) ≡ o → NoneHas (OverrideStands calls r c n) → NoneHas (EntityStands calls (Column c) n) → IsEffective calls given r c n (unwrap_or o (global_value given (newest n)))
+      by_row : (o : Option T) → standing_value (Row r) (newest n) ≡ o → NoneHas (OverrideStands calls r c n) → NoneHas (EntityStands calls (Column c) n) → EffectiveOf given r c n (unwrap_or o (global_value given (newest n)))
       by_row (Some v) e no_cell_override no_column = inr (no_cell_override, inr (no_column, inl (entity_stands (Row r) n v within e)))
       by_row None e no_cell_override no_column = by_table no_cell_override no_column (λ w h. none-some w (sym e ∙ entity_is (Row r) refl n w within h))
 
       by_column : (o : Option T) → standing_value (Column c) (newest n) ≡ o → NoneHas (OverrideStands calls r c n)
-          → IsEffective calls given r c n (unwrap_or o (unwrap_or (standing_value (Row r) (newest n)) (global_value given (newest n))))
+          → EffectiveOf given r c n (unwrap_or o (unwrap_or (standing_value (Row r) (newest n)) (global_value given (newest n))))
       by_column (Some v) e no_cell_override = inr (no_cell_override, inl (entity_stands (Column c) n v within e))
       by_column None e no_cell_override = by_row (standing_value (Row r) (newest n)) refl no_cell_override (λ w h. none-some w (sym e ∙ entity_is (Column c) refl n w within h))
 
       by_cell_override : (o : Option T) → cell_override_value r c (newest n) ≡ o
-          → IsEffective calls given r c n (unwrap_or o (unwrap_or (standing_value (Column c) (newest n)) (unwrap_or (standing_value (Row r) (newest n)) (global_value given (newest n)))))
+          → EffectiveOf given r c n (unwrap_or o (unwrap_or (standing_value (Column c) (newest n)) (unwrap_or (standing_value (Row r) (newest n)) (global_value given (newest n)))))
       by_cell_override (Some v) e = inl (cell_override_stands r c n v within e)
       by_cell_override None e = by_column (standing_value (Column c) (newest n)) refl (λ w h. none-some w (sym e ∙ cell_override_found r c n w within h))
 
@@ -365,31 +380,66 @@ module _ {T : Type 0} (calls : List (MapCall T)) where
   no_value : (e : Entity) (n : ℕ) → n ≤ length calls → NoneHas (EntityStands calls e n) → standing_value e (newest n) ≡ None
   no_value e n within none = none_of (standing_value e (newest n)) (λ w is. none w (entity_stands e n w within is))
 
-  effective_is : (given : T) (r c n : ℕ) (v : T) → n ≤ length calls → IsEffective calls given r c n v → found_by given r c n ≡ v
+  effective_is : (given : T) (r c n : ℕ) (v : T) → n ≤ length calls → EffectiveOf given r c n v → found_by given r c n ≡ v
   effective_is given r c n v within (inl cell_override) = let e = cell_override_found r c n v within cell_override in rw e refl
   effective_is given r c n v within (inr none) = let p = no_override_value r c n within none.0 in rw p (by_column none.1)
     where
-      by_table : OrElse (TableStands calls n) (λ w. w ≡ given) v → global_value given (newest n) ≡ v
-      by_table (inl table) = table_is given n v within table
-      by_table (inr no_table) = elim (table_stands given n within) [ inl table ↦ absurd (no_table.0 _ table) | inr left ↦ left.1 ∙ sym no_table.1 ]
-
-      by_row : OrElse (EntityStands calls (Row r) n) (OrElse (TableStands calls n) (λ w. w ≡ given)) v
+      by_row : OrElse (EntityStands calls (Row r) n) (OrElse (TableStands n) (λ w. w ≡ given)) v
           → unwrap_or (standing_value (Row r) (newest n)) (global_value given (newest n)) ≡ v
       by_row (inl row) = let e = entity_is (Row r) refl n v within row in rw e refl
-      by_row (inr no_row) = let e = no_value (Row r) n within no_row.0 in rw e (by_table no_row.1)
+      by_row (inr no_row) = let e = no_value (Row r) n within no_row.0 in rw e (global_is given n v within no_row.1)
 
-      by_column : OrElse (EntityStands calls (Column c) n) (OrElse (EntityStands calls (Row r) n) (OrElse (TableStands calls n) (λ w. w ≡ given))) v
+      by_column : OrElse (EntityStands calls (Column c) n) (OrElse (EntityStands calls (Row r) n) (OrElse (TableStands n) (λ w. w ≡ given))) v
           → unwrap_or (standing_value (Column c) (newest n)) (unwrap_or (standing_value (Row r) (newest n)) (global_value given (newest n))) ≡ v
       by_column (inl column) = let e = entity_is (Column c) refl n v within column in rw e refl
       by_column (inr no_column) = let e = no_value (Column c) n within no_column.0 in rw e (by_row no_column.1)
 
-  -- all the calls
+  -- ---- all the calls
+
   all_newest : newest (length calls) ≡ reverse calls
   all_newest = ap reverse (take_all (length calls) calls (omega arith))
 
-  pub effective_value-IsEffective : (given : T) (r c : ℕ) → IsEffective calls given r c (length calls) (effective_value given calls (record { row = r; col = c }))
-  effective_value-IsEffective given r c =
-      subst (λ (ns : List (MapCall T)). IsEffective calls given r c (length calls) (decided_by given ns (record { row = r; col = c }))) all_newest (is_effective given r c (length calls) (omega arith))
+  pub effective_value-IsEffective : (given : T) (p : Position) → IsEffective calls given p (effective_value given calls p)
+  effective_value-IsEffective given p =
+      subst (λ (ns : List (MapCall T)). EffectiveOf given p.row p.col (length calls) (decided_by given ns p)) all_newest (is_effective given p.row p.col (length calls) (omega arith))
 
-  pub IsEffective-only : (given : T) (r c : ℕ) (v : T) → IsEffective calls given r c (length calls) v → v ≡ effective_value given calls (record { row = r; col = c })
-  IsEffective-only given r c v h = sym (effective_is given r c (length calls) v (omega arith) h) ∙ ap (λ ns. decided_by given ns (record { row = r; col = c })) all_newest
+  pub IsEffective-only : (given : T) (p : Position) (v : T) → IsEffective calls given p v → v ≡ effective_value given calls p
+  IsEffective-only given p v h = sym (effective_is given p.row p.col (length calls) v (omega arith) h) ∙ ap (λ ns. decided_by given ns p) all_newest
+
+  -- ---- what a map holds
+
+  is_found : (P : T → Type 0) (o : Option T) → ((v : T) → o ≡ Some v → P v) → ((v : T) → P v → o ≡ Some v) → IsFound P o
+  is_found P None has found = λ v is. none-some v (found v is)
+  is_found P (Some v) has found = has v refl
+
+  found_only : (P : T → Type 0) (s o : Option T) → ((v : T) → s ≡ Some v → P v) → ((v : T) → P v → s ≡ Some v) → IsFound P o → o ≡ s
+  found_only P s None has found none = sym (none_of s (λ w e. none w (has w e)))
+  found_only P s (Some v) has found is = sym (found v is)
+
+  entity_search : (e : Entity) (v : T) → standing_value e (reverse calls) ≡ Some v → EntityStands calls e (length calls) v
+  entity_search e v h = entity_stands e (length calls) v (omega arith) (ap (standing_value e) all_newest ∙ h)
+
+  search_entity : (e : Entity) → entity_eq Global e ≡ false → (v : T) → EntityStands calls e (length calls) v → standing_value e (reverse calls) ≡ Some v
+  search_entity e not_all v h = sym (ap (standing_value e) all_newest) ∙ entity_is e not_all (length calls) v (omega arith) h
+
+  cell_search : (p : Position) (v : T) → cell_override_value p.row p.col (reverse calls) ≡ Some v → OverrideStands calls p.row p.col (length calls) v
+  cell_search p v h = cell_override_stands p.row p.col (length calls) v (omega arith) (ap (cell_override_value p.row p.col) all_newest ∙ h)
+
+  search_cell : (p : Position) (v : T) → OverrideStands calls p.row p.col (length calls) v → cell_override_value p.row p.col (reverse calls) ≡ Some v
+  search_cell p v h = sym (ap (cell_override_value p.row p.col) all_newest) ∙ cell_override_found p.row p.col (length calls) v (omega arith) h
+
+  pub history_of_search : (given : T) (stored : Stored T) → HasMapSearch given calls stored → HasMapHistory given calls stored
+  history_of_search given stored holds = record {
+    global = subst (IsGlobal calls given) (ap (global_value given) all_newest ∙ sym holds.global) (table_stands given (length calls) (omega arith));
+    columns = λ c. subst (IsFound (EntityStands calls (Column c) (length calls))) (sym (holds.columns c)) (is_found _ _ (entity_search (Column c)) (search_entity (Column c) refl));
+    rows = λ r. subst (IsFound (EntityStands calls (Row r) (length calls))) (sym (holds.rows r)) (is_found _ _ (entity_search (Row r)) (search_entity (Row r) refl));
+    cells = λ p. subst (IsFound (OverrideStands calls p.row p.col (length calls))) (sym (holds.cells p)) (is_found _ _ (cell_search p) (search_cell p));
+  }
+
+  pub search_of_history : (given : T) (stored : Stored T) → HasMapHistory given calls stored → HasMapSearch given calls stored
+  search_of_history given stored told = record {
+    global = sym (global_is given (length calls) stored.global (omega arith) told.global) ∙ ap (global_value given) all_newest;
+    columns = λ c. found_only _ _ _ (entity_search (Column c)) (search_entity (Column c) refl) (told.columns c);
+    rows = λ r. found_only _ _ _ (entity_search (Row r)) (search_entity (Row r) refl) (told.rows r);
+    cells = λ p. found_only _ _ _ (cell_search p) (search_cell p) (told.cells p);
+  }

@@ -1,6 +1,7 @@
--- What a list of calls decides for a cell, by indices in the list: apart from any search.
-use Rattle.std.specs.Prelude.{◌≡◌, ◌⊎◌, ℕ, ◌<◌, ◌==◌, ◌&&◌, Bool, true, false, List, Some, slice_get}
+-- What a list of calls decides, by indices in the list: apart from any search. The oldest call is the 0-th.
+use Rattle.std.specs.Prelude.{◌≡◌, ◌⊎◌, ℕ, ◌<◌, ◌==◌, ◌&&◌, Bool, true, false, List, Option, Some, None, length, slice_get}
 use Rattle.papergrid_values.specs.declared.entity.Entity.{Entity}
+use Rattle.papergrid_values.specs.declared.position.Position.{Position}
 use Rattle.papergrid_values.specs.declared.entity.Entity.TheVariants.{Global, Column, Row, Cell}
 use Rattle.papergrid_maps.specs.Keys.{entity_eq}
 use Rattle.papergrid_maps.specs.declared.entity_map.MapCall.{MapCall}
@@ -36,6 +37,11 @@ module _ {T : Type 0} where
   abbrev pub OrElse : (T → Type 0) → (T → Type 0) → T → Type 0
   OrElse P Q v = P v ⊎ (((w : T) → ¬ (P w)) × Q v)
 
+  -- what has P, where something has
+  abbrev pub IsFound : (T → Type 0) → Option T → Type 0
+  IsFound P None = (v : T) → ¬ (P v)
+  IsFound P (Some v) = P v
+
 module _ {T : Type 0} (calls : List (MapCall T)) where
   -- of the first n calls, the oldest being the 0-th, the i-th is this one, and none after it passes
   -- the test
@@ -68,14 +74,13 @@ module _ {T : Type 0} (calls : List (MapCall T)) where
     pub counts : (j : ℕ) (call : MapCall T) → index < j → j < n → slice_get calls j ≡ Some call →
         ends_overrides r c call ≡ false
 
-  -- after the first n calls the whole table has a value: the last of them that sets it sets it so
-  abbrev pub TableStands : ℕ → T → Type 0
-  TableStands n v = (i : ℕ) × IsLast sets_all n i (Insert Global v)
+  -- the value of the whole table: that of the last call that sets it, else the one given at first
+  abbrev pub IsGlobal : T → T → Type 0
+  IsGlobal given = OrElse (λ v. (i : ℕ) × IsLast sets_all (length calls) i (Insert Global v)) (λ v. v ≡ given)
 
-  -- the value that the first n calls decide for the cell. It is that of the last override
-  -- that counts, else the column's that stands, else the row's. Else it is the whole
-  -- table's, else the one given at first
-  abbrev pub IsEffective : T → ℕ → ℕ → ℕ → T → Type 0
-  IsEffective given r c n =
-      OrElse (OverrideStands r c n) (OrElse (EntityStands (Column c) n) (OrElse (EntityStands (Row r) n)
-      (OrElse (TableStands n) (λ v. v ≡ given))))
+  -- the value that the calls decide for a cell. It is that of the last override that counts, else
+  -- the column's that stands, else the row's, else that of the whole table
+  abbrev pub IsEffective : T → Position → T → Type 0
+  IsEffective given p =
+      let n = length calls in
+      OrElse (OverrideStands p.row p.col n) (OrElse (EntityStands (Column p.col) n) (OrElse (EntityStands (Row p.row) n) (IsGlobal given)))

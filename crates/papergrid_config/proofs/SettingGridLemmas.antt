@@ -12,29 +12,31 @@ use Rattle.papergrid_tables.specs.BorderParts.{HasLine, parts_from}
 use Rattle.papergrid_tables.proofs.LineTested.{horizontal_tested, vertical_tested}
 use Rattle.papergrid_tables.proofs.MadeTables.{border_history, borders_made_history}
 use Rattle.papergrid_maps.specs.StoredMap.{stored_value}
-use Rattle.papergrid_maps.specs.Grids.{Grid}
+use Rattle.papergrid_maps.specs.Grids.{Grid, size_after, size_before}
 use Rattle.papergrid_maps.specs.Spans as spans
-use Rattle.papergrid_maps.specs.Spans.{IsVisible, RemoveSpans, SetSpan, SpanCall, Spans, effective_span, from_two, is_same_direction, span_along, span_from}
+use Rattle.papergrid_maps.specs.Spans.{IsEffectiveSpan, IsVisible, RemoveSpans, SetSpan, SpanCall, Spans, from_two, is_same_direction, span_along}
+use Rattle.papergrid_maps.specs.ForProofs.SpanSearch.{effective_span, span_from}
+use Rattle.papergrid_maps.proofs.EffectiveCallLemmas.{IsEffective-only, effective_value-IsEffective}
+use Rattle.papergrid_maps.proofs.EffectiveSpanLemmas.{IsEffectiveSpan-only, effective_span-IsEffectiveSpan, spans_of_history}
 use Rattle.papergrid_maps.proofs.MadeTables.{spans_made_history, span_history}
 use Rattle.papergrid_maps.proofs.SpanVisible.{visible_test}
 use Rattle.papergrid_maps.proofs.StoredMapLemmas.{stored_effective}
-use Rattle.papergrid_config.specs.Effective as effective
-use Rattle.papergrid_config.specs.ForProofs.Made.{characters_of, spans_of}
-use Rattle.papergrid_config.specs.Parts.{character_calls, span_calls}
+use Rattle.papergrid_config.specs.ForProofs.Made.{characters_of, grid_of, padding_of, spans_of}
+use Rattle.papergrid_values.specs.Compact.{all_sides, spaces}
+use Rattle.papergrid_maps.specs.EffectiveCall.{IsEffective}
+use Rattle.papergrid_config.specs.Parts.{character_calls, padding_calls, span_calls}
 use Rattle.papergrid_config.specs.History.{HasSettingHistory}
 use Rattle.papergrid_config.specs.declared.setting.Setting.{Setting}
 use Rattle.papergrid_config.specs.declared.spanned.SpannedConfig.{SpannedConfig}
-use Rattle.papergrid_config.specs.Grids.{line_along, spanned_grid}
+use Rattle.papergrid_config.specs.Grids.{IsGridOf, line_along, spanned_grid}
 use Rattle.papergrid_config.proofs.GridLemmas.{same_grid_by}
-use Rattle.papergrid_script.specs.Grids.{IsGridOf}
-use Rattle.papergrid_script.specs.ForProofs.Estimated.{grid_of}
 
 pub grid_told : (settings : List Setting) (config : SpannedConfig) → HasSettingHistory settings config → spanned_grid config ≡ grid_of settings
 unfolding grid_of
 grid_told settings config told =
     let spans_same = span_history (flat_map span_calls settings) config.spans told.spans in
     let lines_same = border_history (flat_map character_calls settings) config.characters told.characters in
-    let padding_same : (p : Position) → stored_value config.padding p ≡ effective.padding settings p = λ p. stored_effective _ _ _ told.padding p in
+    let padding_same : (p : Position) → stored_value config.padding p ≡ padding_of settings p = stored_effective _ _ _ told.padding in
     same_grid_by spans_same padding_same lines_same
 
 -- ---- spans
@@ -63,8 +65,8 @@ from_two-back n least = elim (cases_Bool (nat_le 2 n)) [
 
 -- the span that is read where the calls are the history
 pub span-effective : (calls : List SpanCall) (stored : Spans) → spans.HasSpanHistory calls stored → (direction : Direction) (p : Position) → span_along stored direction p ≡ effective_span direction p calls
-span-effective calls stored told Columns p = ap (λ o. unwrap_or o 1) (told Columns p) ∙ from_two-back _ (span_from-some Columns p (reverse calls))
-span-effective calls stored told Rows p = ap (λ o. unwrap_or o 1) (told Rows p) ∙ from_two-back _ (span_from-some Rows p (reverse calls))
+span-effective calls stored told Columns p = ap (λ o. unwrap_or o 1) (spans_of_history calls stored told Columns p) ∙ from_two-back _ (span_from-some Columns p (reverse calls))
+span-effective calls stored told Rows p = ap (λ o. unwrap_or o 1) (spans_of_history calls stored told Rows p) ∙ from_two-back _ (span_from-some Rows p (reverse calls))
 
 -- ---- the grid
 
@@ -78,25 +80,30 @@ lines-decided settings Rows i count =
 pub is-grid : (settings : List Setting) → IsGridOf settings (grid_of settings)
 unfolding grid_of
 is-grid settings = record {
-  spans = span-effective (flat_map span_calls settings) (spans_of settings) (spans_made_history (flat_map span_calls settings));
+  spans = λ direction p.
+      let calls = flat_map span_calls settings in
+      subst (IsEffectiveSpan direction p calls) (sym (span-effective calls (spans_of settings) (spans_made_history calls) direction p)) (effective_span-IsEffectiveSpan direction p calls);
   visible = visible_test (spans_of settings);
-  before = λ direction p. refl;
-  after = λ direction p. refl;
+  padding = λ p sides is direction.
+      let same = IsEffective-only (flat_map padding_calls settings) (all_sides (spaces 0)) p sides is in
+      (ap (size_before direction) (sym same), ap (size_after direction) (sym same));
   lines = lines-decided settings;
 }
 
 -- settings decide one grid
 pub one-grid : (settings : List Setting) (grid other : Grid) → IsGridOf settings grid → IsGridOf settings other → grid ≡ other
 one-grid settings grid other is also =
-    let span : (direction : Direction) (p : Position) → grid.span direction p ≡ other.span direction p = λ direction p. is.spans direction p ∙ sym (also.spans direction p) in
+    let span : (direction : Direction) (p : Position) → grid.span direction p ≡ other.span direction p =
+    λ direction p. IsEffectiveSpan-only direction p _ _ (is.spans direction p) ∙ sym (IsEffectiveSpan-only direction p _ _ (also.spans direction p)) in
+    let sides : (p : Position) → IsEffective (flat_map padding_calls settings) (all_sides (spaces 0)) p (padding_of settings p) = effective_value-IsEffective (flat_map padding_calls settings) (all_sides (spaces 0)) in
     let spans : grid.span ≡ other.span = λ i direction p. span direction p i in
     let shows : (p : Position) → grid.shows p ≡ other.shows p = λ p. same_answer _ _ (subst (λ s. IsTrue (grid.shows p) ↔ IsVisible s p) spans (is.visible p)) (also.visible p) in
     let draws : (direction : Direction) (count i : ℕ) → grid.draws direction count i ≡ other.draws direction count i = λ direction count i. same_answer _ _ (is.lines direction i count) (also.lines direction i count) in
     λ k. record {
       shows = λ p. shows p k;
       span = λ direction p. span direction p k;
-      before = λ direction p. (is.before direction p ∙ sym (also.before direction p)) k;
-      after = λ direction p. (is.after direction p ∙ sym (also.after direction p)) k;
+      before = λ direction p. ((is.padding p _ (sides p) direction).0 ∙ sym (also.padding p _ (sides p) direction).0) k;
+      after = λ direction p. ((is.padding p _ (sides p) direction).1 ∙ sym (also.padding p _ (sides p) direction).1) k;
       draws = λ direction count i. draws direction count i k;
     }
 
@@ -104,4 +111,4 @@ pub grid-decided : (settings : List Setting) (config : SpannedConfig) → HasSet
 grid-decided settings config told = subst (IsGridOf settings) (sym (grid_told settings config told)) (is-grid settings)
 
 pub grid_covers : (settings : List Setting) (grid : Grid) → IsGridOf settings grid → (direction : Direction) (p : Position) → 1 ≤ grid.span direction p
-grid_covers settings grid is direction p = subst (λ n. 1 ≤ n) (sym (is.spans direction p)) (span_from-some direction p (reverse (flat_map span_calls settings)))
+grid_covers settings grid is direction p = subst (λ n. 1 ≤ n) (sym (IsEffectiveSpan-only direction p _ _ (is.spans direction p))) (span_from-some direction p (reverse (flat_map span_calls settings)))
