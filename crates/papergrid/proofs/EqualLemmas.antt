@@ -25,47 +25,24 @@ use Rattle.papergrid_text.specs.contracts.transfer.FailedPartialEq.TheImpl as fa
 
 -- ---- how sizes are chosen
 
-itself-sizing : (x : Sizing) → sizing.ghosts.eq x x ≡ true
-itself-sizing ByShares = refl
-itself-sizing Least = refl
-
-equal-sizing : (x y : Sizing) → sizing.ghosts.eq x y ≡ true → x ≡ y
-equal-sizing ByShares ByShares is = refl
-equal-sizing Least Least is = refl
-equal-sizing x y is = cc
-
 pub same-sizing : (x y : Sizing) → (sizing.ghosts.eq x y ≡ true) ↔ (x ≡ y)
-same-sizing x y = (equal-sizing x y, λ e. subst (λ z. sizing.ghosts.eq x z ≡ true) e (itself-sizing x))
+same-sizing ByShares ByShares = (λ is. refl, λ is. refl)
+same-sizing Least Least = (λ is. refl, λ is. refl)
+same-sizing x y = (λ is. cc, λ is. cc)
 
 -- ---- ends and faults of runs
 
-itself-end : (x : RunEnd) → run_end.ghosts.eq x x ≡ true
-itself-end Done = refl
-itself-end Refused = refl
-itself-end BadScript = refl
-
-equal-end : (x y : RunEnd) → run_end.ghosts.eq x y ≡ true → x ≡ y
-equal-end Done Done is = refl
-equal-end Refused Refused is = refl
-equal-end BadScript BadScript is = refl
-equal-end x y is = cc
-
 pub same-end : (x y : RunEnd) → (run_end.ghosts.eq x y ≡ true) ↔ (x ≡ y)
-same-end x y = (equal-end x y, λ e. subst (λ z. run_end.ghosts.eq x z ≡ true) e (itself-end x))
-
-itself-fault : (x : RunFault) → run_fault.ghosts.eq x x ≡ true
-itself-fault Memory = refl
-itself-fault Read = refl
-itself-fault Write = refl
-
-equal-fault : (x y : RunFault) → run_fault.ghosts.eq x y ≡ true → x ≡ y
-equal-fault Memory Memory is = refl
-equal-fault Read Read is = refl
-equal-fault Write Write is = refl
-equal-fault x y is = cc
+same-end Done Done = (λ is. refl, λ is. refl)
+same-end Refused Refused = (λ is. refl, λ is. refl)
+same-end BadScript BadScript = (λ is. refl, λ is. refl)
+same-end x y = (λ is. cc, λ is. cc)
 
 pub same-fault : (x y : RunFault) → (run_fault.ghosts.eq x y ≡ true) ↔ (x ≡ y)
-same-fault x y = (equal-fault x y, λ e. subst (λ z. run_fault.ghosts.eq x z ≡ true) e (itself-fault x))
+same-fault Memory Memory = (λ is. refl, λ is. refl)
+same-fault Read Read = (λ is. refl, λ is. refl)
+same-fault Write Write = (λ is. refl, λ is. refl)
+same-fault x y = (λ is. cc, λ is. cc)
 
 -- there is one failure
 pub same-failed : (x y : Failed) → (failed.ghosts.eq x y ≡ true) ↔ (x ≡ y)
