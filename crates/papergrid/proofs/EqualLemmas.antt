@@ -30,13 +30,15 @@ same-sizing ByShares ByShares = (λ is. refl, λ is. refl)
 same-sizing Least Least = (λ is. refl, λ is. refl)
 same-sizing x y = (λ is. cc, λ is. cc)
 
--- ---- ends and faults of runs
+-- ---- ends of runs
 
 pub same-end : (x y : RunEnd) → (run_end.ghosts.eq x y ≡ true) ↔ (x ≡ y)
 same-end Done Done = (λ is. refl, λ is. refl)
 same-end Refused Refused = (λ is. refl, λ is. refl)
 same-end BadScript BadScript = (λ is. refl, λ is. refl)
 same-end x y = (λ is. cc, λ is. cc)
+
+-- ---- faults of runs
 
 pub same-fault : (x y : RunFault) → (run_fault.ghosts.eq x y ≡ true) ↔ (x ≡ y)
 same-fault Memory Memory = (λ is. refl, λ is. refl)
@@ -78,22 +80,11 @@ same-reason x y = (equal-reason x y, λ e. subst (λ z. reason.ghosts.eq x z ≡
 
 -- ---- why a table is not drawn
 
-itself-draw_error : (x : DrawError) → draw_error.ghosts.eq x x ≡ true
-itself-draw_error (draw_errors.OutOfTable p) = (same-position p p).1 refl
-itself-draw_error (draw_errors.NotTiled p) = (same-position p p).1 refl
-itself-draw_error (draw_errors.NoRoom p) = (same-position p p).1 refl
-itself-draw_error draw_errors.TooLarge = refl
-itself-draw_error (draw_errors.Memory e) = refl
-itself-draw_error draw_errors.Write = refl
-
-equal-draw_error : (x y : DrawError) → draw_error.ghosts.eq x y ≡ true → x ≡ y
-equal-draw_error (draw_errors.OutOfTable p) (draw_errors.OutOfTable q) is = ap (λ r. draw_errors.OutOfTable r) ((same-position p q).0 is)
-equal-draw_error (draw_errors.NotTiled p) (draw_errors.NotTiled q) is = ap (λ r. draw_errors.NotTiled r) ((same-position p q).0 is)
-equal-draw_error (draw_errors.NoRoom p) (draw_errors.NoRoom q) is = ap (λ r. draw_errors.NoRoom r) ((same-position p q).0 is)
-equal-draw_error draw_errors.TooLarge draw_errors.TooLarge is = refl
-equal-draw_error (draw_errors.Memory d) (draw_errors.Memory e) is = refl
-equal-draw_error draw_errors.Write draw_errors.Write is = refl
-equal-draw_error x y is = cc
-
 pub same-draw_error : (x y : DrawError) → (draw_error.ghosts.eq x y ≡ true) ↔ (x ≡ y)
-same-draw_error x y = (equal-draw_error x y, λ e. subst (λ z. draw_error.ghosts.eq x z ≡ true) e (itself-draw_error x))
+same-draw_error (draw_errors.OutOfTable p) (draw_errors.OutOfTable q) = (λ is. ap (λ r. draw_errors.OutOfTable r) ((same-position p q).0 is), λ e. (same-position p q).1 (cc e))
+same-draw_error (draw_errors.NotTiled p) (draw_errors.NotTiled q) = (λ is. ap (λ r. draw_errors.NotTiled r) ((same-position p q).0 is), λ e. (same-position p q).1 (cc e))
+same-draw_error (draw_errors.NoRoom p) (draw_errors.NoRoom q) = (λ is. ap (λ r. draw_errors.NoRoom r) ((same-position p q).0 is), λ e. (same-position p q).1 (cc e))
+same-draw_error draw_errors.TooLarge draw_errors.TooLarge = (λ is. refl, λ is. refl)
+same-draw_error (draw_errors.Memory d) (draw_errors.Memory e) = (λ is. refl, λ is. refl)
+same-draw_error draw_errors.Write draw_errors.Write = (λ is. refl, λ is. refl)
+same-draw_error x y = (λ is. cc, λ is. cc)

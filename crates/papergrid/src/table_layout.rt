@@ -7,7 +7,7 @@ ghost use Rattle.papergrid_config.specs.Grids.{spanned_grid};
 ghost use Rattle.papergrid_walk.specs.Measures.{line_measure};
 ghost use Rattle.papergrid_tracks.specs.declared.sizing.Sizing.TheVariants as sizings;
 ghost use Rattle.papergrid_layout.specs.Answers.{UnlessMemory};
-ghost use Rattle.papergrid.specs.Layouts.{IsLaidOut};
+ghost use Rattle.papergrid.specs.Layouts.{IsLayoutBy};
 ghost use Rattle.papergrid_config.specs.History.{HasSettingHistory};
 ghost use Rattle.papergrid_text.specs.Records.{TellsRows};
 
@@ -42,12 +42,8 @@ where
     <<R as Records>::Iter as IntoRecords>::Cell: AsStr + Drop,
     requires lawful { R.is_lawful records }
     requires in_range { All (λ setting. is_in_range setting ≡ true) settings.items }
-    // By a configuration that the settings make, and that holds for each cell what they decide.
-    ensures { UnlessMemory result ((config : SpannedConfig)
-        × HasSettingHistory settings.items config
-        × TellsRows R.tells records (λ cells.
-        IsLaidOut (spanned_grid config) (line_measure R.Iter.Cell.text)
-        (R.columns records) cells sizings.ByShares result)) }
+    ensures { IsLayoutBy R.tells (line_measure R.Iter.Cell.text) R.columns
+        settings.items records sizings.ByShares result }
 {
     laid_out(alloc, settings, records)
 }
@@ -72,12 +68,8 @@ where
     <<R as Records>::Iter as IntoRecords>::Cell: AsStr + Drop,
     requires lawful { R.is_lawful records }
     requires in_range { All (λ setting. is_in_range setting ≡ true) settings.items }
-    // By a configuration that the settings make, and that holds for each cell what they decide.
-    ensures { UnlessMemory result ((config : SpannedConfig)
-        × HasSettingHistory settings.items config
-        × TellsRows R.tells records (λ cells.
-        IsLaidOut (spanned_grid config) (line_measure R.Iter.Cell.text)
-        (R.columns records) cells sizings.Least result)) }
+    ensures { IsLayoutBy R.tells (line_measure R.Iter.Cell.text) R.columns
+        settings.items records sizings.Least result }
 {
     laid_out(alloc, settings, records)
 }
@@ -92,11 +84,8 @@ where
     <<R as Records>::Iter as IntoRecords>::Cell: AsStr + Drop,
     requires lawful { R.is_lawful records }
     requires in_range { All (λ setting. is_in_range setting ≡ true) settings.items }
-    ensures { UnlessMemory result ((config : SpannedConfig)
-        × HasSettingHistory settings.items config
-        × TellsRows R.tells records (λ cells.
-        IsLaidOut (spanned_grid config) (line_measure R.Iter.Cell.text)
-        (R.columns records) cells T.sizing result)) }
+    ensures { IsLayoutBy R.tells (line_measure R.Iter.Cell.text) R.columns
+        settings.items records T.sizing result }
 {
     let config = configuration(alloc, settings)?;
     estimated(GridDimension::new(alloc), records, &config)

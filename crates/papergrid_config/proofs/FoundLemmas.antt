@@ -8,9 +8,9 @@ use Rattle.papergrid_values.specs.declared.position.Position.{Position}
 use Rattle.papergrid_values.specs.Borders.{has_left, has_right, has_top, has_bottom, has_horizontal, has_vertical}
 use Rattle.papergrid_values.specs.declared.direction.Direction.TheVariants.{Columns, Rows}
 use Rattle.papergrid_tables.specs.StoredBorders.{StoredBorders, parts_of_borders}
-use Rattle.papergrid_tables.specs.LineTests.{horizontal_line_at, vertical_line_at}
+use Rattle.papergrid_tables.specs.LineTests.{line_along}
 use Rattle.papergrid_tables.specs.BorderParts.{BorderParts, at_ends, found_horizontal, found_intersection, found_vertical, frame_horizontal, frame_vertical, HasLine}
-use Rattle.papergrid_tables.proofs.LineTested.{horizontal_tested, vertical_tested}
+use Rattle.papergrid_tables.specs.ForProofs.LineTested.{line_test}
 use Rattle.papergrid_config.specs.Lines.{found_or_missing, shown_horizontal, shown_intersection, shown_vertical}
 
 module _ {T : Type 0} where
@@ -95,13 +95,13 @@ shown_where_line found is_line missing tested on_line = (
 module _ (characters : StoredBorders ℕ) (missing : ℕ) (p : Position) where
   pub vertical_shown : (count : ℕ) → p.col ≤ count → IsSome (shown_vertical characters missing p count) ↔ HasLine Columns (parts_of_borders characters) p.col count
   vertical_shown count within =
-      shown_where_line (found_vertical (parts_of_borders characters) p count) _ missing (vertical_tested characters p.col count) (found_on_vertical (parts_of_borders characters) p count within)
+      shown_where_line (found_vertical (parts_of_borders characters) p count) _ missing (line_test characters Columns count p.col).1 (found_on_vertical (parts_of_borders characters) p count within)
 
   pub horizontal_shown : (count : ℕ) → p.row ≤ count → IsSome (shown_horizontal characters missing p count) ↔ HasLine Rows (parts_of_borders characters) p.row count
   horizontal_shown count within =
-      shown_where_line (found_horizontal (parts_of_borders characters) p count) _ missing (horizontal_tested characters p.row count) (found_on_horizontal (parts_of_borders characters) p count within)
+      shown_where_line (found_horizontal (parts_of_borders characters) p count) _ missing (line_test characters Rows count p.row).1 (found_on_horizontal (parts_of_borders characters) p count within)
 
   pub crossing_shown : (rows cols : ℕ) → HasLine Rows (parts_of_borders characters) p.row rows → HasLine Columns (parts_of_borders characters) p.col cols → IsSome (shown_intersection characters missing p (rows, cols))
   crossing_shown rows cols horizontal vertical =
-      shown_on_line (found_intersection (parts_of_borders characters) p rows cols) (horizontal_line_at characters p.row rows && vertical_line_at characters p.col cols) missing
-      (and_from _ _ ((horizontal_tested characters p.row rows).1 horizontal) ((vertical_tested characters p.col cols).1 vertical))
+      shown_on_line (found_intersection (parts_of_borders characters) p rows cols) (line_along characters Rows rows p.row && line_along characters Columns cols p.col) missing
+      (and_from _ _ ((line_test characters Rows rows p.row).1.1 horizontal) ((line_test characters Columns cols p.col).1.1 vertical))

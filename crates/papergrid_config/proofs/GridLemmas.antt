@@ -4,9 +4,10 @@ use Rattle.papergrid_values.specs.declared.position.Position.{Position}
 use Rattle.papergrid_values.specs.declared.sides.Sides.{Sides}
 use Rattle.papergrid_values.specs.declared.indent.Indent.{Indent}
 use Rattle.papergrid_tables.specs.StoredBorders.{StoredBorders}
-use Rattle.papergrid_maps.specs.Spans.{Spans, is_visible, span_along}
+use Rattle.papergrid_maps.specs.Spans.{Spans, span_along}
+use Rattle.papergrid_maps.specs.Visible.{is_visible}
 use Rattle.papergrid_maps.specs.Grids.{Grid, size_after, size_before}
-use Rattle.papergrid_config.specs.Grids.{line_along}
+use Rattle.papergrid_tables.specs.LineTests.{line_along}
 
 -- by its spans, its paddings and its lines
 abbrev pub grid_by : Spans → (Position → Sides Indent) → StoredBorders ℕ → Grid

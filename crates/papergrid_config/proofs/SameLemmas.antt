@@ -28,7 +28,7 @@ use Rattle.papergrid_tables.specs.BorderSame.{same_parts}
 use Rattle.papergrid_tables.specs.ForProofs.BorderEq.{borders_eq}
 use Rattle.papergrid_tables.specs.ForProofs.OffsetEq.{overrides_eq}
 use Rattle.papergrid_tables.specs.Overrides.{StoredOffsets, override_at}
-use Rattle.papergrid_tables.proofs.BorderAgree.{borders_agree}
+use Rattle.papergrid_tables.proofs.BorderAgree.{and_four, borders_agree}
 use Rattle.papergrid_tables.proofs.OffsetEqual.{overrides_agree}
 use Rattle.papergrid_maps.specs.StoredSame.{HoldTheSameSpans}
 use Rattle.papergrid_maps.specs.MapEq.{stored_eq}
@@ -89,26 +89,22 @@ exact_optional x y h = cc
 module _ {T : Type 0} (eq : T → T → Bool) (exact : IsExact eq) where
   pub exact_sides : IsExact (sides_eq eq)
   exact_sides x y h =
-      let a = and_parts _ _ h in
-      let b = and_parts _ _ a.1 in
-      let c = and_parts _ _ b.1 in
+      let parts = and_four h in
       λ i. record {
-        top = exact x.top y.top a.0 i;
-        bottom = exact x.bottom y.bottom b.0 i;
-        left = exact x.left y.left c.0 i;
-        right = exact x.right y.right c.1 i;
+        top = exact x.top y.top parts.0 i;
+        bottom = exact x.bottom y.bottom parts.1 i;
+        left = exact x.left y.left parts.2 i;
+        right = exact x.right y.right parts.3 i;
       }
 
   pub exact_map : IsExact (stored_eq eq)
   exact_map m n h =
-      let a = and_parts _ _ h in
-      let b = and_parts _ _ a.1 in
-      let c = and_parts _ _ b.1 in
+      let parts = and_four h in
       λ i. record {
-        global = exact m.global n.global a.0 i;
-        columns = same_map nat_cmp_total nat_cmp-IsAntisymmetric m.columns n.columns (λ k. exact_option eq exact (get m.columns k) (get n.columns k) ((numbers_agree eq m.columns n.columns).0 b.0 k)) i;
-        rows = same_map nat_cmp_total nat_cmp-IsAntisymmetric m.rows n.rows (λ k. exact_option eq exact (get m.rows k) (get n.rows k) ((numbers_agree eq m.rows n.rows).0 c.0 k)) i;
-        cells = same_map position_total exact_positions m.cells n.cells (λ p. exact_option eq exact (get m.cells p) (get n.cells p) ((positions_agree eq m.cells n.cells).0 c.1 p)) i;
+        global = exact m.global n.global parts.0 i;
+        columns = same_map nat_cmp_total nat_cmp-IsAntisymmetric m.columns n.columns (λ k. exact_option eq exact (get m.columns k) (get n.columns k) ((numbers_agree eq m.columns n.columns).0 parts.1 k)) i;
+        rows = same_map nat_cmp_total nat_cmp-IsAntisymmetric m.rows n.rows (λ k. exact_option eq exact (get m.rows k) (get n.rows k) ((numbers_agree eq m.rows n.rows).0 parts.2 k)) i;
+        cells = same_map position_total exact_positions m.cells n.cells (λ p. exact_option eq exact (get m.cells p) (get n.cells p) ((positions_agree eq m.cells n.cells).0 parts.3 p)) i;
       }
 
   exact_parts : IsExact (same_parts eq)

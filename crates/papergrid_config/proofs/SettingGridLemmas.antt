@@ -9,7 +9,7 @@ use Rattle.papergrid_values.specs.declared.position.Position.{Position}
 use Rattle.papergrid_values.specs.declared.direction.Direction.{Direction}
 use Rattle.papergrid_values.specs.declared.direction.Direction.TheVariants.{Columns, Rows}
 use Rattle.papergrid_tables.specs.BorderParts.{HasLine, parts_from}
-use Rattle.papergrid_tables.proofs.LineTested.{horizontal_tested, vertical_tested}
+use Rattle.papergrid_tables.specs.ForProofs.LineTested.{line_test}
 use Rattle.papergrid_tables.proofs.MadeTables.{border_history, borders_made_history}
 use Rattle.papergrid_maps.specs.StoredMap.{stored_value}
 use Rattle.papergrid_maps.specs.Grids.{Grid, size_after, size_before}
@@ -19,7 +19,7 @@ use Rattle.papergrid_maps.specs.ForProofs.SpanSearch.{effective_span, span_from}
 use Rattle.papergrid_maps.proofs.EffectiveCallLemmas.{IsEffective-only, effective_value-IsEffective}
 use Rattle.papergrid_maps.proofs.EffectiveSpanLemmas.{IsEffectiveSpan-only, effective_span-IsEffectiveSpan, spans_of_history}
 use Rattle.papergrid_maps.proofs.MadeTables.{spans_made_history, span_history}
-use Rattle.papergrid_maps.proofs.SpanVisible.{visible_test}
+use Rattle.papergrid_maps.specs.ForProofs.SpanVisible.{visible_test}
 use Rattle.papergrid_maps.proofs.StoredMapLemmas.{stored_effective}
 use Rattle.papergrid_config.specs.ForProofs.Made.{characters_of, grid_of, padding_of, spans_of}
 use Rattle.papergrid_values.specs.Compact.{all_sides, spaces}
@@ -28,7 +28,8 @@ use Rattle.papergrid_config.specs.Parts.{character_calls, padding_calls, span_ca
 use Rattle.papergrid_config.specs.History.{HasSettingHistory}
 use Rattle.papergrid_config.specs.declared.setting.Setting.{Setting}
 use Rattle.papergrid_config.specs.declared.spanned.SpannedConfig.{SpannedConfig}
-use Rattle.papergrid_config.specs.Grids.{IsGridOf, line_along, spanned_grid}
+use Rattle.papergrid_config.specs.Grids.{IsGridOf, spanned_grid}
+use Rattle.papergrid_tables.specs.LineTests.{line_along}
 use Rattle.papergrid_config.proofs.GridLemmas.{same_grid_by}
 
 pub grid_told : (settings : List Setting) (config : SpannedConfig) → HasSettingHistory settings config → spanned_grid config ≡ grid_of settings
@@ -72,10 +73,9 @@ span-effective calls stored told Rows p = ap (λ o. unwrap_or o 1) (spans_of_his
 
 lines-decided : (settings : List Setting) (direction : Direction) (i count : ℕ) →
     IsTrue (line_along (characters_of settings) direction count i) ↔ HasLine direction (parts_from (reverse (flat_map character_calls settings))) i count
-lines-decided settings Columns i count =
-    subst (λ parts. IsTrue (line_along (characters_of settings) Columns count i) ↔ HasLine Columns parts i count) (borders_made_history (flat_map character_calls settings)) (vertical_tested (characters_of settings) i count)
-lines-decided settings Rows i count =
-    subst (λ parts. IsTrue (line_along (characters_of settings) Rows count i) ↔ HasLine Rows parts i count) (borders_made_history (flat_map character_calls settings)) (horizontal_tested (characters_of settings) i count)
+lines-decided settings direction i count =
+    subst (λ parts. IsTrue (line_along (characters_of settings) direction count i) ↔ HasLine direction parts i count) (borders_made_history (flat_map character_calls settings))
+    (line_test (characters_of settings) direction count i).1
 
 pub is-grid : (settings : List Setting) → IsGridOf settings (grid_of settings)
 unfolding grid_of
@@ -83,7 +83,7 @@ is-grid settings = record {
   spans = λ direction p.
       let calls = flat_map span_calls settings in
       subst (IsEffectiveSpan direction p calls) (sym (span-effective calls (spans_of settings) (spans_made_history calls) direction p)) (effective_span-IsEffectiveSpan direction p calls);
-  visible = visible_test (spans_of settings);
+  visible = λ p. (visible_test (spans_of settings) p).1;
   padding = λ p sides is direction.
       let same = IsEffective-only (flat_map padding_calls settings) (all_sides (spaces 0)) p sides is in
       (ap (size_before direction) (sym same), ap (size_after direction) (sym same));

@@ -1,26 +1,20 @@
 -- The grid of a configuration by entity, and of settings.
-use Rattle.std.specs.Prelude.{◌≡◌, ◌↔◌, ℕ, Bool, IsTrue, List, flat_map, reverse}
+use Rattle.std.specs.Prelude.{◌≡◌, ◌↔◌, ℕ, IsTrue, List, flat_map, reverse}
 use Rattle.papergrid_values.specs.declared.direction.Direction.{Direction}
-use Rattle.papergrid_values.specs.declared.direction.Direction.TheVariants.{Columns, Rows}
 use Rattle.papergrid_values.specs.Compact.{all_sides, spaces}
 use Rattle.papergrid_values.specs.declared.indent.Indent.{Indent}
 use Rattle.papergrid_values.specs.declared.position.Position.{Position}
 use Rattle.papergrid_values.specs.declared.sides.Sides.{Sides}
 use Rattle.papergrid_tables.specs.BorderParts.{HasLine, parts_from}
-use Rattle.papergrid_tables.specs.StoredBorders.{StoredBorders}
-use Rattle.papergrid_tables.specs.LineTests.{horizontal_line_at, vertical_line_at}
+use Rattle.papergrid_tables.specs.LineTests.{line_along}
 use Rattle.papergrid_maps.specs.Grids.{Grid, size_after, size_before}
 use Rattle.papergrid_maps.specs.StoredMap.{stored_value}
 use Rattle.papergrid_maps.specs.EffectiveCall.{IsEffective}
-use Rattle.papergrid_maps.specs.Spans.{IsEffectiveSpan, IsVisible, is_visible, span_along}
+use Rattle.papergrid_maps.specs.Spans.{IsEffectiveSpan, IsVisible, span_along}
+use Rattle.papergrid_maps.specs.Visible.{is_visible}
 use Rattle.papergrid_config.specs.Parts.{character_calls, padding_calls, span_calls}
 use Rattle.papergrid_config.specs.declared.setting.Setting.{Setting}
 use Rattle.papergrid_config.specs.declared.spanned.SpannedConfig.{SpannedConfig}
-
--- whether there is a line at i of count, along a direction
-abbrev pub line_along : StoredBorders ℕ → Direction → ℕ → ℕ → Bool
-line_along characters Columns count i = vertical_line_at characters i count
-line_along characters Rows count i = horizontal_line_at characters i count
 
 -- by what the configuration holds
 abbrev pub spanned_grid : SpannedConfig → Grid

@@ -2,9 +2,8 @@
 
 ghost use Rattle.std.specs.Prelude.{◌≡◌, ◌↔◌, ◌-◌, ◌<◌, ◌^◌, IsTrue, option_copied};
 ghost use Rattle.papergrid_tables.specs.StoredBorders.{parts_of_borders};
-ghost use Rattle.papergrid_tables.specs.LineTests.{horizontal_line_at, vertical_line_at};
+ghost use Rattle.papergrid_tables.specs.LineTests.{line_along};
 ghost use Rattle.papergrid_tables.specs.BorderParts.{found_horizontal, found_intersection, found_vertical, HasLine};
-ghost use Rattle.papergrid_config.specs.Grids.{line_along};
 ghost use Rattle.papergrid_config.specs.Lines.{shown_horizontal, shown_intersection, shown_vertical};
 ghost use Rattle.papergrid_values.specs.Lines.{all_lines};
 ghost use Rattle.papergrid_values.specs.declared.direction.Direction.TheVariants.{Columns, Rows};
@@ -85,7 +84,7 @@ impl SpannedConfig {
     pub fn has_vertical(&self, col: usize, count: usize) -> bool
         ensures line { IsTrue result ↔
             HasLine Columns (parts_of_borders self.now.characters) col count }
-        ensures test { result ≡ vertical_line_at self.now.characters col count }
+        ensures test { result ≡ line_along self.now.characters Columns count col }
     {
         self.characters.has_vertical(col, count)
     }
@@ -94,7 +93,7 @@ impl SpannedConfig {
     pub fn has_horizontal(&self, row: usize, count: usize) -> bool
         ensures line { IsTrue result ↔
             HasLine Rows (parts_of_borders self.now.characters) row count }
-        ensures test { result ≡ horizontal_line_at self.now.characters row count }
+        ensures test { result ≡ line_along self.now.characters Rows count row }
     {
         self.characters.has_horizontal(row, count)
     }

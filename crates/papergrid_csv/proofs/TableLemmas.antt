@@ -1,5 +1,5 @@
 -- Tables whose cells span one row and one column each.
-use Rattle.std.proofs.Common.{◌≡◌, ◌∙◌, ◌<◌, ℕ, Bool, true, false, List, [], ap, arith, refl}
+use Rattle.std.proofs.Common.{◌≡◌, ◌∙◌, ◌<◌, ℕ, Bool, true, false, List, [], ap, arith, inl, inr, refl}
 use Rattle.std.specs.Prelude.{◌||◌, IsSome, flat_map, nat_lt, unwrap_or}
 use Rattle.std.proofs.lemmas.Bool.Decides.{nat_tests}
 use Rattle.std.specs.FinMap.{get-empty}
@@ -9,7 +9,9 @@ use Rattle.papergrid_values.specs.declared.direction.Direction.{Direction}
 use Rattle.papergrid_values.specs.declared.direction.Direction.TheVariants.{Columns, Rows}
 use Rattle.papergrid_values.specs.declared.position.Position.{Position}
 use Rattle.papergrid_tables.specs.StoredBorders.{StoredBorders}
-use Rattle.papergrid_tables.specs.LineTests.{vertical_line_at}
+use Rattle.papergrid_tables.specs.LineTests.{line_along}
+use Rattle.papergrid_tables.specs.BorderParts.{in_frame}
+use Rattle.papergrid_tables.specs.ForProofs.LineTested.{line_test}
 use Rattle.papergrid_config.specs.Grids.{spanned_grid}
 use Rattle.papergrid_config.specs.History.{HasSettingHistory}
 use Rattle.papergrid_maps.proofs.MadeTables.{span_history}
@@ -17,8 +19,9 @@ use Rattle.papergrid_config.specs.Parts.{span_calls}
 use Rattle.papergrid_config.specs.declared.setting.Setting.{Setting}
 use Rattle.papergrid_config.specs.declared.spanned.SpannedConfig.{SpannedConfig}
 use Rattle.papergrid_maps.specs.ForProofs.Made.{spans_made}
-use Rattle.papergrid_maps.specs.Spans.{is_visible, span_along}
-use Rattle.papergrid_maps.proofs.SpanVisible.{visible_test}
+use Rattle.papergrid_maps.specs.Spans.{span_along}
+use Rattle.papergrid_maps.specs.Visible.{is_visible}
+use Rattle.papergrid_maps.specs.ForProofs.SpanVisible.{visible_test}
 use Rattle.papergrid_maps.specs.Grids.{Grid}
 use Rattle.papergrid_layout.specs.Places.{TableView}
 use Rattle.papergrid_draw.specs.Tiles.{EndsOutside, IsTiled, Owns}
@@ -45,7 +48,7 @@ none-spanned settings config none told =
     one Rows p = ap (λ o. unwrap_or o 1) (get-empty position_cmp p)
 
     seen : (p : Position) → is_visible (spans_made []) p ≡ true
-    seen p = (visible_test (spans_made []) p).1 (λ anchor other covers.
+    seen p = (visible_test (spans_made []) p).1.1 (λ anchor other covers.
         let across = one Columns anchor in
         let down = one Rows anchor in
         other (same-position anchor p (omega (arith, covers.below_top, covers.above_bottom)) (omega (arith, covers.after_left, covers.before_right))))
@@ -73,14 +76,14 @@ module _ (table : TableView) (spans : HasNoSpans table.grid) where
 
 -- ---- vertical lines
 
-or-true : (g x y r : Bool) → (g || ((x || (y || true)) || r)) ≡ true
-or-true true x y r = refl
-or-true false true y r = refl
-or-true false false true r = refl
-or-true false false false r = refl
+or-true : (x y : Bool) → (x || (y || true)) ≡ true
+or-true true y = refl
+or-true false true = refl
+or-true false false = refl
 
-pub line-between : (stored : StoredBorders ℕ) (frame : Borders ℕ) (j count : ℕ) → stored.frame ≡ frame → IsSome frame.vertical → 0 < j → j < count → vertical_line_at stored j count ≡ true
+pub line-between : (stored : StoredBorders ℕ) (frame : Borders ℕ) (j count : ℕ) → stored.frame ≡ frame → IsSome frame.vertical → 0 < j → j < count → line_along stored Columns count j ≡ true
 line-between stored frame j count is some above below =
     let first : nat_lt 0 j ≡ true = grind (arith, nat_tests) in
     let second : nat_lt j count ≡ true = grind (arith, nat_tests) in
-    rw (is, first, second, some) (or-true _ _ _ _)
+    let framed : in_frame Columns stored.frame j count ≡ true = rw (is, first, second, some) (or-true _ _) in
+    (line_test stored Columns count j).1.1 (inr (inl framed))

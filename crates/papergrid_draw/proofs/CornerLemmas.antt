@@ -3,7 +3,7 @@ use Rattle.std.proofs.Common.{◌≡◌, ◌∙◌, ap, sym, subst, refl, inl, i
 use Rattle.std.specs.Prelude.{◌↔◌, All, IsSome, IsTrue, if◌then◌else◌}
 use Rattle.std.specs.Cmp.{nat_cmp_total}
 use Rattle.std.specs.FinMap.{nat_cmp-IsAntisymmetric, same_map}
-use Rattle.std.specs.List.{flat_map}
+use Rattle.std.specs.List.{AllByRecursion, flat_map}
 use Rattle.std.specs.Option.{option_or}
 use Rattle.std.proofs.lemmas.Grind.{flat_map-append}
 use Rattle.std.proofs.lemmas.List.{reverse-append}
@@ -13,6 +13,8 @@ use Rattle.papergrid_values.specs.MapKeys.{position_eq}
 use Rattle.papergrid_values.specs.declared.alignment.AlignmentHorizontal.TheVariants.{Left}
 use Rattle.papergrid_values.specs.declared.alignment.AlignmentVertical.TheVariants.{Top}
 use Rattle.papergrid_values.specs.declared.offset.Offset.TheVariants.{Start}
+use Rattle.papergrid_values.specs.Borders.{border_parts}
+use Rattle.papergrid_values.specs.declared.border.Border.{Border}
 use Rattle.papergrid_values.specs.Compact.{all_sides, spaces}
 use Rattle.papergrid_values.specs.Positions.{along}
 use Rattle.papergrid_values.specs.declared.direction.Direction.{Direction}
@@ -22,10 +24,10 @@ use Rattle.papergrid_values.proofs.KeyLemmas.{exact_position_eq, exact_positions
 use Rattle.papergrid_values.proofs.ResultLemmas.{same_answer}
 use Rattle.papergrid_tables.specs.BorderCalls.{BorderCall, InsertBorder, below, right_of}
 use Rattle.papergrid_tables.specs.BorderParts.{BorderParts, StandsOn, found_intersection, parts_after_call, parts_from, HasLine}
-use Rattle.papergrid_tables.specs.LineTests.{horizontal_line_at, vertical_line_at}
+use Rattle.papergrid_tables.specs.LineTests.{line_along}
 use Rattle.papergrid_tables.specs.Overrides as overrides
 use Rattle.papergrid_tables.specs.StoredBorders.{parts_of_borders}
-use Rattle.papergrid_tables.proofs.LineTested.{horizontal_tested, vertical_tested}
+use Rattle.papergrid_tables.specs.ForProofs.LineTested.{line_test}
 use Rattle.papergrid_tables.proofs.MadeTables.{border_history}
 use Rattle.papergrid_tables.specs.ForProofs.Made.{borders_made}
 use Rattle.papergrid_maps.specs.ForProofs.Made.{spans_made}
@@ -41,6 +43,28 @@ use Rattle.papergrid_config.specs.declared.spanned.SpannedConfig.{SpannedConfig}
 use Rattle.papergrid_draw.specs.Crossings.{BecomesBy, DifferInCrossings, corner_border, crossing_setting}
 use Rattle.papergrid_draw.specs.ForProofs.Crossings.{IsMark, mark_at}
 use Rattle.papergrid_draw.specs.declared.crossings.Junctions.{Junctions}
+
+-- a border each of whose parts is this
+pub same_border : {T : Type 0} (part : Option T) (border : Border T) → AllByRecursion (λ it. it ≡ part) (border_parts border) → border ≡ record {
+  top = part;
+  bottom = part;
+  left = part;
+  right = part;
+  left_top_corner = part;
+  left_bottom_corner = part;
+  right_top_corner = part;
+  right_bottom_corner = part;
+}
+same_border part border each = λ i. record {
+  top = each.0 i;
+  bottom = each.1.0 i;
+  left = each.1.1.0 i;
+  right = each.1.1.1.0 i;
+  left_top_corner = each.1.1.1.1.0 i;
+  left_bottom_corner = each.1.1.1.1.1.0 i;
+  right_top_corner = each.1.1.1.1.1.1.0 i;
+  right_bottom_corner = each.1.1.1.1.1.1.1.0 i;
+}
 
 -- ---- the character at a position
 
@@ -254,28 +278,28 @@ module _ (old new : SpannedConfig) (marks : List (Position × ℕ)) (becomes : B
               inr (found.0, found.1, ap (along direction) found.2 ∙ stands.1))
         ] refl stands.2
 
-    pub vertical-same : (n : ℕ) → vertical_line_at new.characters n shape.1 ≡ vertical_line_at old.characters n shape.1
+    pub vertical-same : (n : ℕ) → line_along new.characters Columns shape.1 n ≡ line_along old.characters Columns shape.1 n
     vertical-same n =
-        let now = subst (λ places. IsTrue (vertical_line_at new.characters n shape.1) ↔ HasLine Columns places n shape.1) parts-new (vertical_tested new.characters n shape.1) in
-        same_answer (vertical_line_at new.characters n shape.1) (vertical_line_at old.characters n shape.1)
+        let now = subst (λ places. IsTrue (line_along new.characters Columns shape.1 n) ↔ HasLine Columns places n shape.1) parts-new (line_test new.characters Columns shape.1 n).1 in
+        same_answer (line_along new.characters Columns shape.1 n) (line_along old.characters Columns shape.1 n)
         ((λ yes. last-of before (now.0 yes)), (λ has. now.1 (last-of (λ stands. inr (inr (inr (inr (inr (stands-on Columns n stands)))))) has)))
-        (vertical_tested old.characters n shape.1)
+        (line_test old.characters Columns shape.1 n).1
       where
         before : StandsOn Columns n (with_marks marks parts).corner → HasLine Columns parts n shape.1
         before stands = elim (stood-on Columns n stands) [
           | inl stood ↦ inr (inr (inr (inr (inr stood))))
-          | inr found ↦ subst (λ m. HasLine Columns parts m shape.1) found.2 ((vertical_tested old.characters found.0.0.col shape.1).0 found.1.unfit.seen.vertical)
+          | inr found ↦ subst (λ m. HasLine Columns parts m shape.1) found.2 ((line_test old.characters Columns shape.1 found.0.0.col).1.0 found.1.unfit.seen.vertical)
         ]
 
-    pub horizontal-same : (n : ℕ) → horizontal_line_at new.characters n shape.0 ≡ horizontal_line_at old.characters n shape.0
+    pub horizontal-same : (n : ℕ) → line_along new.characters Rows shape.0 n ≡ line_along old.characters Rows shape.0 n
     horizontal-same n =
-        let now = subst (λ places. IsTrue (horizontal_line_at new.characters n shape.0) ↔ HasLine Rows places n shape.0) parts-new (horizontal_tested new.characters n shape.0) in
-        same_answer (horizontal_line_at new.characters n shape.0) (horizontal_line_at old.characters n shape.0)
+        let now = subst (λ places. IsTrue (line_along new.characters Rows shape.0 n) ↔ HasLine Rows places n shape.0) parts-new (line_test new.characters Rows shape.0 n).1 in
+        same_answer (line_along new.characters Rows shape.0 n) (line_along old.characters Rows shape.0 n)
         ((λ yes. last-of before (now.0 yes)), (λ has. now.1 (last-of (λ stands. inr (inr (inr (inr (inr (stands-on Rows n stands)))))) has)))
-        (horizontal_tested old.characters n shape.0)
+        (line_test old.characters Rows shape.0 n).1
       where
         before : StandsOn Rows n (with_marks marks parts).corner → HasLine Rows parts n shape.0
         before stands = elim (stood-on Rows n stands) [
           | inl stood ↦ inr (inr (inr (inr (inr stood))))
-          | inr found ↦ subst (λ m. HasLine Rows parts m shape.0) found.2 ((horizontal_tested old.characters found.0.0.row shape.0).0 found.1.unfit.seen.horizontal)
+          | inr found ↦ subst (λ m. HasLine Rows parts m shape.0) found.2 ((line_test old.characters Rows shape.0 found.0.0.row).1.0 found.1.unfit.seen.horizontal)
         ]

@@ -17,7 +17,7 @@ use Rattle.papergrid_values.specs.declared.position.Position.{Position}
 use Rattle.papergrid_tables.specs.BorderParts.{BorderParts, HasNoCellParts, found_vertical, no_parts}
 use Rattle.papergrid_tables.specs.Overrides.{found_override, override_at}
 use Rattle.papergrid_tables.specs.StoredBorders.{parts_of_borders}
-use Rattle.papergrid_maps.proofs.SpanVisible.{visible_test, visible_without_spans}
+use Rattle.papergrid_maps.specs.ForProofs.SpanVisible.{visible_test, visible_without_spans}
 use Rattle.papergrid_config.specs.Grids.{spanned_grid}
 use Rattle.papergrid_config.specs.Queries.{HasCommonLines}
 use Rattle.papergrid_config.specs.declared.spanned.SpannedConfig.{SpannedConfig}
@@ -54,7 +54,7 @@ module _ (config : SpannedConfig) (plain : IsPlain config) where
 
   -- none is hidden
   pub plain-shown : (p : Position) → (spanned_grid config).shows p ≡ true
-  plain-shown p = (visible_test config.spans p).1 (visible_without_spans config.spans p plain.columns plain.rows)
+  plain-shown p = (visible_test config.spans p).1.1 (visible_without_spans config.spans p plain.columns plain.rows)
 
 extent-one : (size : ℕ → ℕ) (line : ℕ → Bool) (s : ℕ) → extent size line s 1 ≡ size s
 extent-one size line s = let e : sum_from size s 1 ≡ size s + 0 = sum_by-cons size s [] in omega arith

@@ -1,7 +1,6 @@
 -- Crossings of lines, by which lines meet there.
 use Rattle.std.specs.Prelude.{◌≡◌, ◌≢◌, ◌↔◌, ◌≤◌, ◌<◌, ◌+◌, ◌-◌, ◌^◌, ◌⊎◌, ◌&&◌, ℕ, All, AllPairs, Bool, Contains, map, true, false, not, nat_lt, List, [], Option, None, Some}
 use Rattle.std.specs.Option.{option_eq}
-use Rattle.papergrid_values.specs.Borders.{border_with}
 use Rattle.papergrid_values.specs.MapKeys.{position_eq}
 use Rattle.papergrid_values.specs.Positions.{IsBefore, position_of}
 use Rattle.papergrid_values.specs.declared.border.Border.{Border}
@@ -86,7 +85,16 @@ pub record AreOfFrame (frame : Borders ℕ) (junctions : Junctions) : Type 0 whe
 
 -- the border of a cell that has a corner at its top and left, and nothing else
 abbrev pub corner_border : ℕ → Border ℕ
-corner_border character = record (border_with None) { left_top_corner = Some character }
+corner_border character = record {
+  top = None;
+  bottom = None;
+  left = None;
+  right = None;
+  left_top_corner = Some character;
+  left_bottom_corner = None;
+  right_top_corner = None;
+  right_bottom_corner = None;
+}
 
 -- a table with the lines and spans of a configuration, and without texts and sizes
 abbrev pub bare_drawing : SpannedConfig → ℕ × ℕ → Drawing

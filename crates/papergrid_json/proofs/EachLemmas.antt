@@ -10,7 +10,7 @@ use Rattle.std.specs.Ordering.{is_eq}
 use Rattle.papergrid_values.specs.MapKeys.{position_cmp}
 use Rattle.papergrid_values.specs.declared.position.Position.{Position}
 use Rattle.papergrid_json.specs.Documents.{AreColors, color_in, items_at}
-use Rattle.papergrid_json.specs.ForProofs.Reading.{IsReading, IsReadingAs}
+use Rattle.papergrid_json.specs.ForProofs.Reading.{IsReading, IsReadingAs, IsReadingAsOr, IsReadingOr}
 use Rattle.papergrid_json.specs.Spots.{count, each, is_missing, item_at}
 use Rattle.papergrid_json.specs.declared.error.Fault.{Fault}
 use Rattle.papergrid_json.specs.declared.error.Fault.TheVariants.{Memory, Unexpected, UnknownSetting}
@@ -105,7 +105,20 @@ all_read read items done n h = ap (behind read done) (past_last items n h) ∙ a
 pub refused_with : {A B C : Type 0} (Is : A → B → Type 0) (told : Option A) (one : Option C) (fault : Fault) → (one ≡ None → told ≡ None) → IsReading {A = C} one (Err fault) → IsReadingAs Is told (Err fault)
 refused_with Is told one Memory none h = tt
 refused_with Is told one (Unexpected path wanted) none h = none h
-refused_with Is told one (UnknownSetting index name) none h = none h
+refused_with Is told one (UnknownSetting index name) none h = absurd h
+
+-- the same beside settings that may have no name of theirs
+pub refused_beside : {A B C : Type 0} (IsUnknown : ℕ → List ℕ → Type 0) (Is : A → B → Type 0) (told : Option A) (one : Option C) (fault : Fault) → (one ≡ None → told ≡ None)
+    → IsReading {A = C} one (Err fault) → IsReadingAsOr IsUnknown Is told (Err fault)
+refused_beside IsUnknown Is told one Memory none h = tt
+refused_beside IsUnknown Is told one (Unexpected path wanted) none h = none h
+refused_beside IsUnknown Is told one (UnknownSetting index name) none h = absurd h
+
+pub refused_or : {A B C : Type 0} (IsOne IsUnknown : ℕ → List ℕ → Type 0) (Is : A → B → Type 0) (told : Option A) (one : Option C) (fault : Fault) → (one ≡ None → told ≡ None)
+    → ((index : ℕ) (name : List ℕ) → IsOne index name → IsUnknown index name) → IsReadingOr {A = C} IsOne one (Err fault) → IsReadingAsOr IsUnknown Is told (Err fault)
+refused_or IsOne IsUnknown Is told one Memory none unknown h = tt
+refused_or IsOne IsUnknown Is told one (Unexpected path wanted) none unknown h = none h
+refused_or IsOne IsUnknown Is told one (UnknownSetting index name) none unknown h = (none h.0, unknown index name.now h.1)
 
 -- as many items as were counted
 counted : (items : Option Items) (n : ℕ) → option_map count items ≡ Some n → (listed : Items) × (items ≡ Some listed) × (count listed ≡ n)

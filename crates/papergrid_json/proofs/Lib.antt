@@ -4,3 +4,4 @@ pub mod OneLemmas
 pub mod PartLemmas
 pub mod RecordLemmas
 pub mod SpotLemmas
+pub mod UnknownLemmas

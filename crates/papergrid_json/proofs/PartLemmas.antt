@@ -1,5 +1,5 @@
 -- The names of parts, one after another.
-use Rattle.std.proofs.Common.{◌≡◌, ◌<◌, ◌≤◌, ◌+◌, ◌||◌, ℕ, zero, suc, List, [], ◌∷◌, Bool, true, false, true≢false, Bor, length, drop, map, get_or, sym, ap, ◌∙◌, arith, refl, Option, Some, Result, Err}
+use Rattle.std.proofs.Common.{◌≡◌, ◌<◌, ◌≤◌, ◌+◌, ◌||◌, ℕ, zero, suc, List, [], ◌∷◌, Bool, true, false, true≢false, length, drop, map, get_or, sym, ap, ◌∙◌, arith, refl, Option, Some, Result, Err}
 use Rattle.std.specs.Prelude.{bytes_eq, codes}
 use Rattle.serde_json.specs.Data.{Data}
 use Rattle.papergrid_json.specs.ForProofs.Reading.{IsReading, IsTest}
@@ -9,34 +9,32 @@ use Rattle.papergrid_json.specs.declared.error.Fault.{Fault}
 use Rattle.papergrid_json.specs.declared.error.Fault.TheVariants.{Memory, Unexpected, UnknownSetting}
 use Rattle.papergrid_values.specs.declared.borders.Borders.{Borders}
 
-abbrev pub spelled : List (Bor (List ℕ)) → List (List ℕ)
-spelled names = map (λ name. name.now) names
+module _ {X : Type 0} (word : X → List ℕ) (name : List ℕ) where
+  -- the names from one on are this one and those behind it
+  step : (names : List X) (i : ℕ) (d : X) → i < length names
+      → is_named name (drop i (map word names)) ≡ bytes_eq name (word (get_or names i d)) || is_named name (drop (suc i) (map word names))
+  step [] i d h = absurd (omega (arith, h))
+  step (first ∷ names) zero d h = refl
+  step (first ∷ names) (suc i) d h = step names i d (omega (arith, h))
 
--- the names from one on are this one and those behind it
-step : (name : List ℕ) (names : List (Bor (List ℕ))) (i : ℕ) (d : Bor (List ℕ)) → i < length names
-    → is_named name (drop i (spelled names)) ≡ bytes_eq name (get_or names i d).now || is_named name (drop (suc i) (spelled names))
-step name [] i d h = absurd (omega (arith, h))
-step name (first ∷ names) zero d h = refl
-step name (first ∷ names) (suc i) d h = step name names i d (omega (arith, h))
+  module _ (names : List X) (i : ℕ) where
+    -- at a name that is this one
+    pub named_here : (d : X) → i < length names → bytes_eq name (word (get_or names i d)) ≡ true → is_named name (drop i (map word names)) ≡ true
+    named_here d h same = step names i d h ∙ ap (λ b. b || is_named name (drop (suc i) (map word names))) same
 
-module _ (name : List ℕ) (names : List (Bor (List ℕ))) (i : ℕ) where
-  -- at a name that is this one
-  pub named_here : (d : Bor (List ℕ)) → i < length names → bytes_eq name (get_or names i d).now ≡ true → is_named name (drop i (spelled names)) ≡ true
-  named_here d h same = step name names i d h ∙ ap (λ b. b || is_named name (drop (suc i) (spelled names))) same
+    -- at one that is another
+    pub named_behind : (d : X) → i < length names → bytes_eq name (word (get_or names i d)) ≡ false
+        → is_named name (drop i (map word names)) ≡ is_named name (drop (i + 1) (map word names))
+    named_behind d h other =
+        let next : suc i ≡ i + 1 = omega arith in
+        step names i d h ∙ ap (λ b. b || is_named name (drop (suc i) (map word names))) other ∙ ap (λ n. is_named name (drop n (map word names))) next
 
-  -- at one that is another
-  pub named_behind : (d : Bor (List ℕ)) → i < length names → bytes_eq name (get_or names i d).now ≡ false
-      → is_named name (drop i (spelled names)) ≡ is_named name (drop (i + 1) (spelled names))
-  named_behind d h other =
-      let next : suc i ≡ i + 1 = omega arith in
-      step name names i d h ∙ ap (λ b. b || is_named name (drop (suc i) (spelled names))) other ∙ ap (λ n. is_named name (drop n (spelled names))) next
-
--- behind the last one there is none
-pub none_behind : (name : List ℕ) (names : List (Bor (List ℕ))) (i : ℕ) → length names ≤ i → is_named name (drop i (spelled names)) ≡ false
-none_behind name [] zero h = refl
-none_behind name [] (suc i) h = refl
-none_behind name (first ∷ names) zero h = absurd (omega (arith, h))
-none_behind name (first ∷ names) (suc i) h = none_behind name names i (omega (arith, h))
+  -- behind the last one there is none
+  pub none_behind : (names : List X) (i : ℕ) → length names ≤ i → is_named name (drop i (map word names)) ≡ false
+  none_behind [] zero h = refl
+  none_behind [] (suc i) h = refl
+  none_behind (first ∷ names) zero h = absurd (omega (arith, h))
+  none_behind (first ∷ names) (suc i) h = none_behind names i (omega (arith, h))
 
 module _ {A : Type 0} (told : Option Data → Option A) (here : Option Data) where
   abbrev pub Four : Type 0
@@ -84,8 +82,7 @@ at_test : {A : Type 0} (so : Bool) (told : Option A) (fault : Fault) → IsTest 
 at_test so told Memory h = tt
 at_test true told (Unexpected path wanted) h = absurd (true≢false h)
 at_test false told (Unexpected path wanted) h = refl
-at_test true told (UnknownSetting index name) h = absurd (true≢false h)
-at_test false told (UnknownSetting index name) h = refl
+at_test so told (UnknownSetting index name) h = absurd h
 
 module _ {A : Type 0} (told : Option Data → Option A) (here : Option Data) where
   pub frame_past : (answer : Result (Borders A) Fault) → is_frame here ≡ true → IsReading (frame_by_parts told here) answer → IsReading (frame_at told here) answer

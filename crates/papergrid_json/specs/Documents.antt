@@ -1,5 +1,5 @@
 -- What a document tells, and what is known of one that was read.
-use Rattle.std.specs.Prelude.{◌≡◌, ℕ, max, Bool, true, ◌&&◌, nat_le, is_some, unwrap_or, if◌then◌else◌, List, [], ◌∷◌, All, Option, Some, None, Result, Ok, Err, option_and_then, option_map, codes, length, map, string_bytes, take, ⊤, IsUtf8, String, Vec}
+use Rattle.std.specs.Prelude.{◌≡◌, ◌<◌, ℕ, max, Bool, true, ◌&&◌, nat_le, is_some, unwrap_or, if◌then◌else◌, List, [], ◌∷◌, All, Option, Some, None, Result, Ok, Err, option_and_then, option_map, codes, length, map, string_bytes, take, ⊤, IsUtf8, String, Vec}
 use Rattle.std.specs.Global.{Global}
 use Rattle.std.specs.Option.{option_or, option_zip}
 use Rattle.std.specs.BTreeMap.{BTreeMap, get}
@@ -11,13 +11,13 @@ use Rattle.papergrid_values.specs.declared.position.Position.{Position}
 use Rattle.papergrid_values.specs.MapKeys.{position_cmp}
 use Rattle.papergrid_config.specs.Applied.{is_in_range}
 use Rattle.papergrid_config.specs.declared.setting.Setting.{Setting}
-use Rattle.papergrid_json.specs.Settings.{setting_at}
-use Rattle.papergrid_json.specs.Spots.{each, is_list_of, is_missing, item_at, list_at, member_at, number_at, optional, text_at, when}
+use Rattle.papergrid_json.specs.Settings.{setting_at, setting_by_word}
+use Rattle.papergrid_json.specs.Spots.{each, is_list_of, is_missing, item_at, list_at, member_at, number_at, optional, text_at, when, word_at}
 use Rattle.papergrid_json.specs.Values.{of_both}
 use Rattle.papergrid_json.specs.declared.document.Document.{Document}
 use Rattle.papergrid_json.specs.declared.document.OwnSizes.{OwnSizes}
 use Rattle.papergrid_json.specs.declared.error.DocumentError.{DocumentError}
-use Rattle.papergrid_json.specs.declared.error.DocumentError.TheVariants.{Memory, Syntax}
+use Rattle.papergrid_json.specs.declared.error.DocumentError.TheVariants.{Memory, Syntax, Unexpected, UnknownSetting}
 
 -- each setting may be applied
 abbrev pub AreInRange : List Setting → Type 0
@@ -131,18 +131,32 @@ document_in text = option_and_then document_parts_in (read text)
 abbrev pub setting_in : List ℕ → Option Setting
 setting_in text = option_and_then (λ value. accepted_at (Some value)) (read text)
 
-module _ {T A : Type 0} (found_in : List ℕ → Option T) (Is : T → A → Type 0) where
+-- the setting that stands there tells none, and this is its number and its name. No values behind this name tell one
+pub record IsUnknownAt (number : ℕ) (here : Option Data) (index : ℕ) (name : List ℕ) : Type 0 where
+  pub numbered : index ≡ number
+  pub named : option_map (λ word. word.0) (word_at here) ≡ Some name
+  pub none : setting_at here ≡ None
+  pub unknown : (other : Option Data) (count : ℕ) → setting_by_word other (name, count) ≡ None
+
+-- so it is with a setting of a list, and each one before it may be applied
+pub record IsFirstUnknown (settings : Option Data) (index : ℕ) (name : List ℕ) : Type 0 where
+  pub unknown : IsUnknownAt index (item_at index settings) index name
+  pub first : (k : ℕ) → k < index → is_some (accepted_at (item_at k settings)) ≡ true
+
+module _ {T A : Type 0} (found_in : List ℕ → Option T) (Is : T → A → Type 0) (IsUnknown : Data → ℕ → List ℕ → Type 0) where
   -- a value is read of a text in UTF-8 that tells it so; a text that is refused is no JSON in UTF-8, or tells none
   abbrev pub IsReadBy : List ℕ → Result A DocumentError → Type 0
   IsReadBy text (Ok value) = IsUtf8 text × ((told : T) × (found_in text ≡ Some told) × Is told value)
   IsReadBy text (Err Memory) = ⊤
   IsReadBy text (Err (Syntax line byte)) = IsUtf8 text → read text ≡ None
-  IsReadBy text (Err error) = IsUtf8 text × (is_some (read text) ≡ true) × (found_in text ≡ None)
+  IsReadBy text (Err (Unexpected path wanted)) = IsUtf8 text × (is_some (read text) ≡ true) × (found_in text ≡ None)
+  IsReadBy text (Err (UnknownSetting index name)) =
+      IsUtf8 text × (found_in text ≡ None) × ((value : Data) × (read text ≡ Some value) × IsUnknown value index (string_bytes name))
 
 -- a document is read so
 abbrev pub IsDocumentRead : List ℕ → Result Document DocumentError → Type 0
-IsDocumentRead = IsReadBy document_in IsDocument
+IsDocumentRead = IsReadBy document_in IsDocument (λ value. IsFirstUnknown (json.get (codes "settings") value))
 
 -- a setting is
 abbrev pub IsSettingRead : List ℕ → Result Setting DocumentError → Type 0
-IsSettingRead = IsReadBy setting_in (λ told setting. setting ≡ told)
+IsSettingRead = IsReadBy setting_in (λ told setting. setting ≡ told) (λ value. IsUnknownAt 0 (Some value))

@@ -1,5 +1,5 @@
 -- The settings of a configuration, as JSON tells them: by a name, and values behind it.
-use Rattle.std.specs.Prelude.{ℕ, if◌then◌else◌, List, Option, Some, None, option_and_then, option_map, codes, bytes_eq, ◌==◌}
+use Rattle.std.specs.Prelude.{ℕ, if◌then◌else◌, List, Option, Some, None, option_and_then, option_map, codes, bytes_eq, map, ◌==◌}
 use Rattle.std.specs.Option.{option_zip}
 use Rattle.serde_json.specs.Data.{Data}
 use Rattle.papergrid_values.specs.declared.offset.Offset.TheVariants.{Start}
@@ -8,10 +8,15 @@ use Rattle.papergrid_values.specs.declared.offset.Offset.{Offset}
 use Rattle.papergrid_config.specs.declared.setting.Setting.{Setting}
 use Rattle.papergrid_config.specs.declared.setting.Setting.TheVariants.{SetMargin, SetMarginColor, SetMarginOffset, RemoveBorders, RemoveBordersColors, RemoveColorLineHorizontal, RemoveColorLineVertical, RemoveHorizontalChars, RemoveVerticalChars, SetBorders, SetBorderDefault, SetBordersColor, SetBorderColorDefault, SetBordersMissing, InsertHorizontalLine, RemoveHorizontalLine, InsertVerticalLine, RemoveVerticalLine, SetHorizontalChar, RemoveOverriddenHorizontal, SetVerticalChar, RemoveOverriddenVertical, SetHorizontalCharColor, SetVerticalCharColor, SetPadding, SetPaddingColor, SetTrimHorizontal, SetTrimVertical, SetLineAlignment, SetAlignmentHorizontal, SetAlignmentVertical, SetJustification, SetJustificationColor, SetBorder, SetBorderColor, RemoveBorder, RemoveBorderColor, SetColumnSpan, SetRowSpan, RemoveColumnSpans, RemoveRowSpans}
 use Rattle.papergrid_values.specs.Compact.{spaces}
+use Rattle.papergrid_json.specs.declared.forms.TheConstants.{SETTINGS}
 use Rattle.papergrid_json.specs.Spots.{character_at, flag_at, item_at, number_at, optional, two_numbers_at, word_at}
 use Rattle.papergrid_json.specs.Values.{border_at, color_at, entity_at, filled_sides, frame_at, horizontal_at, horizontal_parts_at, indent_at, of_both, offset_at, position_at, sides_at, vertical_at, vertical_parts_at}
 
 -- ---- settings
+
+-- the names of all of them
+abbrev pub setting_names : List (List ℕ)
+setting_names = map (λ form. form.0.now) SETTINGS
 
 -- one that removes all of a kind, by its name alone
 unfoldable pub bare_setting : List ℕ → Option Setting

@@ -6,8 +6,8 @@ ghost use Rattle.serde_json.specs.View.{items_view, view};
 ghost use Rattle.papergrid_json.specs.Spots.{count, each, list_at, optional, text_at};
 ghost use Rattle.papergrid_config.specs.Applied.{is_in_range};
 ghost use Rattle.papergrid_json.specs.declared.error.Fault.TheVariants.{Memory};
-ghost use Rattle.papergrid_json.specs.ForProofs.Reading.{AreItems, AreOwnSizes, IsDraft, IsFinished, IsJsonRead, IsReading, IsReadingAs, IsTableRead, found};
-ghost use Rattle.papergrid_json.specs.Documents.{AreColors, AreInRange, IsDocumentRead, IsSettingRead, accepted_at, are_enough, colored_at, draft_in, longest_row, items_at, optional_list_at, own_sizes_at, row_texts_in, own_sizes, texts_of_rows};
+ghost use Rattle.papergrid_json.specs.ForProofs.Reading.{AreItems, AreOwnSizes, IsDraft, IsFinished, IsJsonRead, IsReading, IsReadingAs, IsReadingAsOr, IsReadingOr, IsTableRead, IsUnexpected, found};
+ghost use Rattle.papergrid_json.specs.Documents.{AreColors, AreInRange, IsDocumentRead, IsFirstUnknown, IsSettingRead, IsUnknownAt, accepted_at, are_enough, colored_at, draft_in, longest_row, items_at, optional_list_at, own_sizes_at, row_texts_in, own_sizes, texts_of_rows};
 
 use crate::error::{DocumentError, Fault, told};
 use crate::path::DocumentPath;
@@ -120,7 +120,9 @@ struct Draft {
 /// What a JSON value describes but its rows.
 #[tactic(auto, unfolding(crate::specs::Documents::draft_in))]
 fn drafted<'v>(alloc: Global, document: &'v Value) -> Result<Draft, Fault<'v>>
-    ensures { IsReadingAs IsDraft (draft_in (view document.now)) result }
+    ensures { let value = view document.now in
+        let settings = get (codes "settings") value in
+        IsReadingAsOr (IsFirstUnknown settings) IsDraft (draft_in value) result }
 {
     if !document.is_object() {
         return Err(Fault::Unexpected(DocumentPath::of("the document"), "an object with records"));
@@ -135,7 +137,8 @@ fn drafted<'v>(alloc: Global, document: &'v Value) -> Result<Draft, Fault<'v>>
 
 /// The settings that stand at a path, none where nothing does.
 fn settings<'v>(alloc: Global, spot: &Spot<'v>) -> Result<Vec<Setting>, Fault<'v>>
-    ensures { IsReadingAs AreItems (optional_list_at accepted_at (found spot.now)) result }
+    ensures { let here = found spot.now in
+        IsReadingAsOr (IsFirstUnknown here) AreItems (optional_list_at accepted_at here) result }
 {
     let mut settings = Vec::new(alloc);
     for index in 0..count(spot, "a list of settings")? {
@@ -148,7 +151,8 @@ fn settings<'v>(alloc: Global, spot: &Spot<'v>) -> Result<Vec<Setting>, Fault<'v
 #[tactic(auto, unfolding(crate::specs::Documents::accepted_at))]
 fn accepted<'v>(alloc: Global, index: usize, spot: &Spot<'v>) -> Result<Setting, Fault<'v>>
     ensures in_range { IfOk result (λ setting. is_in_range setting ≡ true) }
-    ensures read { IsReading (accepted_at (found spot.now)) result }
+    ensures read { let here = found spot.now in
+        IsReadingOr (IsUnknownAt index here) (accepted_at here) result }
 {
     let setting = setting(alloc, index, spot)?;
     if !setting.is_in_range() {
@@ -347,7 +351,7 @@ fn enough(
 
 /// That sizes of this name are too few.
 fn missing(name: &'static str, wanted: &'static str) -> Fault<'static>
-    ensures { result ≢ Memory }
+    ensures { IsUnexpected result }
 {
     Fault::Unexpected(DocumentPath::of("sizes").field(name), wanted)
 }

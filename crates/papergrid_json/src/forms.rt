@@ -1,5 +1,9 @@
 //! The names of all settings, and what follows each.
 
+ghost use Rattle.std.specs.Prelude.{◌≡◌, is_some, map};
+ghost use Rattle.papergrid_json.specs.Settings.{setting_names};
+ghost use Rattle.papergrid_json.specs.Values.{is_named};
+
 /// A setting as a document spells it: its name, and the whole with a word in place of each value.
 pub type Form = (&'static str, &'static str);
 
@@ -112,9 +116,18 @@ pub const SETTINGS: [Form; 41] = [
 ];
 
 /// The setting of this name.
-pub fn form_named(name: &str) -> Option<&'static Form> {
-    for form in &SETTINGS {
-        if form.0 == name {
+pub fn form_named(name: &str) -> Option<&'static Form>
+    ensures { is_some result ≡ is_named name.now setting_names }
+{
+    form_in(&SETTINGS, name)
+}
+
+/// The first of some forms that has this name.
+fn form_in<'s>(forms: &'s [Form], name: &str) -> Option<&'s Form>
+    ensures { is_some result ≡ is_named name.now (map (λ form. form.0.now) forms.now) }
+{
+    for form in forms {
+        if name == form.0 {
             return Some(form);
         }
     }

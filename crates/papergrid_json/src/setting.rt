@@ -2,7 +2,8 @@
 
 ghost use Rattle.std.specs.Option.{option_zip};
 ghost use Rattle.std.specs.Prelude.{◌≡◌, ◌≢◌};
-ghost use Rattle.papergrid_json.specs.ForProofs.Reading.{IsReading, IsReadingOrNone, found};
+ghost use Rattle.papergrid_json.specs.ForProofs.Reading.{IsReadingOr, IsReadingOrNone, IsUnlike, found};
+ghost use Rattle.papergrid_json.specs.Documents.{IsUnknownAt};
 ghost use Rattle.papergrid_json.specs.Spots.{item_at};
 ghost use Rattle.papergrid_json.specs.Values.{offset_at, position_at};
 ghost use Rattle.papergrid_json.specs.declared.error.Fault.TheVariants.{Memory};
@@ -20,7 +21,8 @@ use std::alloc::Global;
 /// The setting that stands at a path, with this number among them.
 #[tactic(auto, unfolding(crate::specs::Settings::setting_at))]
 pub fn setting<'v>(alloc: Global, index: usize, spot: &Spot<'v>) -> Result<Setting, Fault<'v>>
-    ensures { IsReading (setting_at (found spot.now)) result }
+    ensures { let here = found spot.now in
+        IsReadingOr (IsUnknownAt index here) (setting_at here) result }
 {
     let Some((name, count)) = spot.word() else {
         return Err(spot.unexpected("a list of the name of a setting and its values"));
@@ -33,7 +35,7 @@ pub fn setting<'v>(alloc: Global, index: usize, spot: &Spot<'v>) -> Result<Setti
 
 /// That no setting has this name, or that the one which has it has other values.
 fn unlike_all<'v>(index: usize, name: &'v str, spot: &Spot<'v>) -> Fault<'v>
-    ensures { result ≢ Memory }
+    ensures { IsUnlike index name.now result }
 {
     match form_named(name) {
         Some((_, spelled)) => spot.unexpected(*spelled),

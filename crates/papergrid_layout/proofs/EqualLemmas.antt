@@ -58,30 +58,14 @@ same-position x y = (
 
 -- ---- errors
 
-itself-place_error : (x : PlaceError) → place_error.ghosts.eq x x ≡ true
-itself-place_error Hidden = refl
-itself-place_error OutOfTable = refl
-itself-place_error TooLarge = refl
-
-equal-place_error : (x y : PlaceError) → place_error.ghosts.eq x y ≡ true → x ≡ y
-equal-place_error Hidden Hidden is = refl
-equal-place_error OutOfTable OutOfTable is = refl
-equal-place_error TooLarge TooLarge is = refl
-equal-place_error x y is = cc
-
 pub same-place_error : (x y : PlaceError) → (place_error.ghosts.eq x y ≡ true) ↔ (x ≡ y)
-same-place_error x y = (equal-place_error x y, λ e. subst (λ z. place_error.ghosts.eq x z ≡ true) e (itself-place_error x))
-
-itself-layout_error : (x : LayoutError) → layout_error_eq.ghosts.eq x x ≡ true
-itself-layout_error (layout_error.OutOfTable p) = (same-position p p).1 refl
-itself-layout_error layout_error.TooLarge = refl
-itself-layout_error (layout_error.Memory e) = refl
-
-equal-layout_error : (x y : LayoutError) → layout_error_eq.ghosts.eq x y ≡ true → x ≡ y
-equal-layout_error (layout_error.OutOfTable p) (layout_error.OutOfTable q) is = ap (λ r. layout_error.OutOfTable r) ((same-position p q).0 is)
-equal-layout_error layout_error.TooLarge layout_error.TooLarge is = refl
-equal-layout_error (layout_error.Memory d) (layout_error.Memory e) is = refl
-equal-layout_error x y is = cc
+same-place_error Hidden Hidden = (λ is. refl, λ is. refl)
+same-place_error OutOfTable OutOfTable = (λ is. refl, λ is. refl)
+same-place_error TooLarge TooLarge = (λ is. refl, λ is. refl)
+same-place_error x y = (λ is. cc, λ is. cc)
 
 pub same-layout_error : (x y : LayoutError) → (layout_error_eq.ghosts.eq x y ≡ true) ↔ (x ≡ y)
-same-layout_error x y = (equal-layout_error x y, λ e. subst (λ z. layout_error_eq.ghosts.eq x z ≡ true) e (itself-layout_error x))
+same-layout_error (layout_error.OutOfTable p) (layout_error.OutOfTable q) = (λ is. ap (λ r. layout_error.OutOfTable r) ((same-position p q).0 is), λ e. (same-position p q).1 (cc e))
+same-layout_error layout_error.TooLarge layout_error.TooLarge = (λ is. refl, λ is. refl)
+same-layout_error (layout_error.Memory d) (layout_error.Memory e) = (λ is. refl, λ is. refl)
+same-layout_error x y = (λ is. cc, λ is. cc)

@@ -11,7 +11,7 @@ use Rattle.papergrid_values.specs.declared.position.Position.{Position}
 use Rattle.papergrid_values.specs.Positions.{IsBefore, position_of}
 use Rattle.papergrid_config.specs.declared.spanned.SpannedConfig.{SpannedConfig}
 use Rattle.papergrid_maps.specs.declared.anchors.Anchor.{Anchor}
-use Rattle.papergrid_maps.proofs.SpanVisible.{visible_test}
+use Rattle.papergrid_maps.specs.ForProofs.SpanVisible.{visible_test}
 use Rattle.papergrid_walk.specs.ForProofs.Shown.{anchor_in}
 use Rattle.papergrid_walk.specs.ForProofs.Visits.{shows_turn}
 use Rattle.papergrid_maps.specs.Grids.{Grid}
@@ -120,7 +120,7 @@ before-turn p r c in_row (inr left) = let l : p.col < 0 = left.1 in absurd (omeg
 -- the first position is hidden by none
 pub first-shown : (config : SpannedConfig) → (spanned_grid config).shows (position_of (0, 0)) ≡ true
 first-shown config =
-    (visible_test config.spans (position_of (0, 0))).1
+    (visible_test config.spans (position_of (0, 0))).1.1
     (λ anchor other within. other (position-same anchor (position_of (0, 0)) (omega (arith, within.below_top)) (omega (arith, within.after_left))))
 
 pub none-before : (p : Position) → IsBefore p (position_of (0, 0)) → ⊥

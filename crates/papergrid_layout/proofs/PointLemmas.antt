@@ -4,7 +4,7 @@ use Rattle.std.specs.Prelude.{Err, MatchOption, Option, None, Some}
 use Rattle.std.proofs.lemmas.Bool.{cases_lt, false≢true}
 use Rattle.std.specs.Bool.{then_some}
 use Rattle.papergrid_config.specs.declared.spanned.SpannedConfig.{SpannedConfig}
-use Rattle.papergrid_maps.proofs.SpanVisible.{visible_test}
+use Rattle.papergrid_maps.specs.ForProofs.SpanVisible.{visible_test}
 use Rattle.papergrid_maps.specs.Spans.{IsInRectangle}
 use Rattle.papergrid_values.specs.declared.direction.Direction.TheVariants.{Columns, Rows}
 use Rattle.papergrid_values.specs.declared.position.Position.{Position}
@@ -28,7 +28,7 @@ where-fits (Some i) Fits Out Lies fits lies = (fits, lies)
 -- a visible position lies in no other rectangle
 pub none-but-visible : (config : SpannedConfig) (p q : Position) → (spanned_grid config).shows p ≡ true →
     IsInRectangle (spanned_grid config).span q p → q ≢ p → ⊥
-none-but-visible config p q visible within other = (visible_test config.spans p).0 visible q other within
+none-but-visible config p q visible within other = (visible_test config.spans p).1.0 visible q other within
 
 -- a point of a range from track s on, of n numbers, and the number whose stretch the point lies in
 module _ (size : ℕ → ℕ) (line : ℕ → Bool) (s n x : ℕ) (from : offset size line s ≤ x) (to : x < offset size line s + extent size line s n) where

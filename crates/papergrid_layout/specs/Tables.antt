@@ -44,3 +44,8 @@ line_position table direction i =
 -- there is a size for each of so many tracks
 abbrev pub HasSizes : (ℕ → Type 0) → ℕ → Type 0
 HasSizes has count = (track : ℕ) → track < count → has track
+
+-- there is a width for the column, or a height for the row
+abbrev pub has_along : (ℕ → Type 0) → (ℕ → Type 0) → Direction → ℕ → Type 0
+has_along columns rows Columns = columns
+has_along columns rows Rows = rows

@@ -3,8 +3,7 @@
 ghost use Rattle.std.specs.Prelude.{◌≡◌, ◌+◌, ◌<◌, ◌≤◌, ◌↔◌, ◌⊎◌, ◌^◌, IsTrue, MatchOption};
 ghost use Rattle.papergrid_values.specs.declared.position.Position.{Position};
 ghost use Rattle.papergrid_layout.specs.Places.{IsFirstOver, StandsOver, offset, size_along, table_by, total};
-ghost use Rattle.papergrid_layout.specs.ForProofs.Rulers.{has_along};
-ghost use Rattle.papergrid_layout.specs.Tables.{HasSizes};
+ghost use Rattle.papergrid_layout.specs.Tables.{HasSizes, has_along};
 
 use crate::cell_rect::place;
 use crate::dimension::Dimension;

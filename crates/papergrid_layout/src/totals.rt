@@ -4,8 +4,7 @@ ghost use Rattle.std.specs.Prelude.{};
 ghost use Rattle.papergrid_values.specs.declared.direction.Direction.TheVariants.{Columns, Rows};
 ghost use Rattle.papergrid_config.specs.Grids.{spanned_grid};
 ghost use Rattle.papergrid_layout.specs.Places.{IsTotalOf, size_along, total};
-ghost use Rattle.papergrid_layout.specs.ForProofs.Rulers.{has_along};
-ghost use Rattle.papergrid_layout.specs.Tables.{HasSizes};
+ghost use Rattle.papergrid_layout.specs.Tables.{HasSizes, has_along};
 
 use crate::dimension::Dimension;
 use crate::ruler::Ruler;

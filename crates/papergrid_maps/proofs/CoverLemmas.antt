@@ -17,10 +17,11 @@ use Rattle.papergrid_values.specs.declared.position.Position.{Position}
 use Rattle.papergrid_values.specs.MapKeys.{position_cmp, position_eq}
 use Rattle.papergrid_values.proofs.AnyLemmas.{any_found, any_from_found}
 use Rattle.papergrid_values.proofs.KeyLemmas.{exact_position_eq, position_ties, position_total}
-use Rattle.papergrid_maps.specs.Spans.{Spans, span_along, is_visible, IsInRectangle}
+use Rattle.papergrid_maps.specs.Spans.{Spans, span_along, IsInRectangle}
+use Rattle.papergrid_maps.specs.Visible.{is_visible}
 use Rattle.papergrid_maps.specs.ForProofs.SpanIndex.{CoversOne, DirectedSpans, covers, covers_stored, extent_of, stored_along, key_of}
 use Rattle.papergrid_maps.proofs.IndexKeys.{stored_at, key_key}
-use Rattle.papergrid_maps.proofs.SpanVisible.{apart_by_test, apart_from_test, visible_test}
+use Rattle.papergrid_maps.specs.ForProofs.SpanVisible.{apart_by_test, apart_from_test, visible_test}
 
 module _ (span : Direction → Position → ℕ) (a p : Position) where
   covered_inside : covers a (span Columns a) (span Rows a) p ≡ true → (a ≢ p) × IsInRectangle span a p
@@ -117,12 +118,12 @@ module _ (spans : Spans) (positions : List Position) where
       let p = get_or positions found.0 found.1 in
       let covered : covers a (span_along spans Columns a) (span_along spans Rows a) p ≡ true = rw found.3 found.4 in
       let inside = covered_inside (span_along spans) a p covered in
-      (visible_test spans p).0 (all found.0 found.1 found.2) a inside.0 inside.1
+      (visible_test spans p).1.0 (all found.0 found.1 found.2) a inside.0 inside.1
 
   -- where neither direction covers a position, all are visible
   all_seen : ((a : Position) → is_some (get spans.columns a) ≡ true → covers_some a ≡ true → ⊥) → ((a : Position) → is_some (get spans.rows a) ≡ true → covers_some a ≡ true → ⊥)
       → All (λ p. IsTrue (is_visible spans p)) positions
-  all_seen narrow short k d l = (visible_test spans (get_or positions k d)).1 (λ a apart within.
+  all_seen narrow short k d l = (visible_test spans (get_or positions k d)).1.1 (λ a apart within.
       let p = get_or positions k d in
       let covered : covers_some a ≡ true = list_any-from_Any (covers a (span_along spans Columns a) (span_along spans Rows a)) positions
       (k, p, l, get_or_default positions k p d l, inside_covered (span_along spans) a p apart within) in

@@ -6,8 +6,9 @@ use Rattle.papergrid_values.specs.declared.direction.Direction.TheVariants.{Colu
 use Rattle.papergrid_values.specs.declared.position.Position.{Position}
 use Rattle.papergrid_maps.specs.declared.anchors.Anchor.{Anchor}
 use Rattle.papergrid_maps.specs.Hidden.{IsHidden}
-use Rattle.papergrid_maps.specs.Spans.{IsInRectangle, IsVisible, Spans, is_visible, span_along}
-use Rattle.papergrid_maps.proofs.SpanVisible.{visible_test}
+use Rattle.papergrid_maps.specs.Spans.{IsInRectangle, IsVisible, Spans, span_along}
+use Rattle.papergrid_maps.specs.Visible.{is_visible}
+use Rattle.papergrid_maps.specs.ForProofs.SpanVisible.{visible_test}
 use Rattle.papergrid_maps.specs.Anchors.{HasAnchor, AreAnchors}
 
 pub position-same : (p q : Position) → p.row ≡ q.row → p.col ≡ q.col → p ≡ q
@@ -63,6 +64,6 @@ visible-by-hidden span anchors p are =
 pub test-by-hidden : (spans : Spans) (anchors : List Anchor) (p : Position) → AreAnchors (span_along spans) anchors
     → IsTrue (is_visible spans p) ↔ (IsHidden anchors p → ⊥)
 test-by-hidden spans anchors p are =
-    let tested = visible_test spans p in
+    let tested = (visible_test spans p).1 in
     let shown = visible-by-hidden (span_along spans) anchors p are in
     (λ t. shown.0 (tested.0 t), λ h. tested.1 (shown.1 h))

@@ -19,6 +19,5 @@ pub mod MapSteps
 pub mod MapHistory
 pub mod SpanHidden
 pub mod SpanHistory
-pub mod SpanVisible
 pub mod HistoryEqual
 pub mod WrittenCopies

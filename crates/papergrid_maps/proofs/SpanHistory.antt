@@ -20,7 +20,7 @@ use Rattle.papergrid_maps.specs.ForProofs.SpanIndex.{AreFromTwo, stored_along, k
 use Rattle.papergrid_values.proofs.EntryLemmas.{none_is_not_some}
 use Rattle.papergrid_values.proofs.KeyLemmas.{position_equiv, position_ties, position_total}
 use Rattle.papergrid_maps.proofs.IndexKeys.{stored_at, key_key}
-use Rattle.papergrid_maps.proofs.SpanVisible.{not_true}
+use Rattle.papergrid_maps.specs.ForProofs.SpanVisible.{not_true}
 
 newest : (calls : List SpanCall) (call : SpanCall) → reverse (calls ++ call ∷ []) ≡ call ∷ reverse calls
 newest calls call = reverse-append calls (call ∷ [])

@@ -8,3 +8,5 @@ pub mod PaddingLaws
 pub mod SpanEq
 pub mod SpanIndex
 pub mod SpanSearch
+pub mod SpanVisible
+pub mod VisibleSearch

@@ -11,4 +11,5 @@ pub mod MapEq
 pub mod StoredMap
 pub mod Paddings
 pub mod Spans
+pub mod Visible
 pub mod ForProofs

@@ -1,7 +1,6 @@
 -- Spans: what the calls decide, what is stored, and what a rectangle hides.
-use Rattle.std.specs.Prelude.{◌≡◌, ℕ, ◌+◌, ◌<◌, ◌≤◌, ◌≢◌, ◌&&◌, not, nat_lt, nat_le, Bool, true, false, if◌then◌else◌, All, List, ◌∷◌, ◌++◌, Option, Some, None, IsSome, unwrap_or}
-use Rattle.std.specs.List.{list_any}
-use Rattle.std.specs.FinMap.{FinMap, get, keys}
+use Rattle.std.specs.Prelude.{◌≡◌, ℕ, ◌+◌, ◌<◌, ◌≤◌, ◌≢◌, ◌&&◌, nat_lt, nat_le, Bool, true, false, if◌then◌else◌, All, List, ◌∷◌, ◌++◌, Option, Some, None, IsSome, unwrap_or}
+use Rattle.std.specs.FinMap.{FinMap, get}
 use Rattle.papergrid_values.specs.Positions.{along}
 use Rattle.papergrid_values.specs.declared.direction.Direction.{Direction}
 use Rattle.papergrid_values.specs.declared.direction.Direction.TheVariants.{Columns, Rows}
@@ -109,13 +108,3 @@ module _ (span : Direction → Position → ℕ) where
   is_in_rectangle anchor p =
       nat_le anchor.row p.row && (nat_lt p.row (anchor.row + span Rows anchor)
       && (nat_le anchor.col p.col && nat_lt p.col (anchor.col + span Columns anchor)))
-
-  -- whether one of these anchors, if it is another position, hides this one
-  abbrev pub is_hidden_by : List Position → Position → Bool
-  is_hidden_by anchors p =
-      list_any (λ anchor. not (position_eq anchor p) && is_in_rectangle anchor p) anchors
-
--- whether the position is visible: only where a span is stored can another position hide it
-abbrev pub is_visible : Spans → Position → Bool
-is_visible spans p =
-    not (is_hidden_by (span_along spans) (keys spans.columns ++ keys spans.rows) p)

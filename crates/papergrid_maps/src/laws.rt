@@ -13,7 +13,8 @@ ghost use Rattle.papergrid_maps.specs.StoredSame.{HoldTheSameSpans, HoldTheSameV
 ghost use Rattle.papergrid_maps.specs.EffectiveCall.{IsEffective};
 ghost use Rattle.papergrid_maps.specs.StoredMap.{Stored, HasMapHistory, stored_value};
 ghost use Rattle.papergrid_maps.specs.Spans as spans;
-ghost use Rattle.papergrid_maps.specs.Spans.{IsEffectiveSpan, IsVisible, SpanCall, Spans, is_visible, span_along};
+ghost use Rattle.papergrid_maps.specs.Spans.{IsEffectiveSpan, IsVisible, SpanCall, Spans, span_along};
+ghost use Rattle.papergrid_maps.specs.Visible.{is_visible};
 
 use crate::{Anchor, EntityMap, MapCall, Paddings, SpanTable, Stopped};
 

@@ -14,7 +14,8 @@ ghost use Rattle.papergrid_values.specs.MapKeys.{position_cmp, position_eq};
 ghost use Rattle.papergrid_values.specs.declared.direction.Direction.{Direction};
 ghost use Rattle.papergrid_maps.specs.Anchors.{AreAnchors, HasAnchor, IsSorted};
 ghost use Rattle.papergrid_maps.specs.Listed.{HasAtEach};
-ghost use Rattle.papergrid_maps.specs.Spans.{HasSpanHistory, EndWithin, HasSpan, IsVisible, IsCoveredByColumn, IsCoveredByRow, IsCoveredByBoth, SetSpan, RemoveSpans, is_visible, span_along, spans_along};
+ghost use Rattle.papergrid_maps.specs.Spans.{HasSpanHistory, EndWithin, HasSpan, IsVisible, IsCoveredByColumn, IsCoveredByRow, IsCoveredByBoth, SetSpan, RemoveSpans, span_along, spans_along};
+ghost use Rattle.papergrid_maps.specs.Visible.{is_visible};
 ghost use Rattle.papergrid_maps.specs.ForProofs.SpanIndex.{AreFromTwo, HoldsBoth, span_set};
 
 use crate::anchors::{Anchor, anchors_of};

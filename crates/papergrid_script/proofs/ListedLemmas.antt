@@ -17,18 +17,23 @@ use Rattle.papergrid_values.specs.declared.direction.Direction.{Direction}
 use Rattle.papergrid_values.specs.declared.direction.Direction.TheVariants.{Columns, Rows}
 use Rattle.papergrid_tables.specs.BorderCalls.{BorderCall}
 use Rattle.papergrid_values.specs.MapKeys.{position_cmp}
-use Rattle.papergrid_tables.specs.LineTests.{ends_at_column, ends_at_row, vertical_line_at, horizontal_line_at}
+use Rattle.papergrid_tables.specs.ForProofs.LineSearch.{ends_at_column, ends_at_row, vertical_line_at, horizontal_line_at}
+use Rattle.papergrid_tables.specs.ForProofs.LineTested.{horizontal_tested, line_test, vertical_tested}
 use Rattle.papergrid_values.specs.Tabulated.{tabulation, with_value}
 use Rattle.papergrid_tables.specs.ForProofs.Made.{borders_made, named_columns, named_positions, named_rows}
 use Rattle.papergrid_tables.specs.BorderParts.{at_ends, parts_from}
 use Rattle.papergrid_maps.specs.ForProofs.Made.{named_anchors, spans_made}
-use Rattle.papergrid_maps.specs.Spans.{SpanCall, Spans, from_two, is_hidden_by, is_visible, span_along}
+use Rattle.papergrid_maps.specs.Spans.{SpanCall, Spans, from_two, span_along}
+use Rattle.papergrid_maps.specs.ForProofs.SpanVisible.{seen_visible, visible_seen, visible_test}
+use Rattle.papergrid_maps.specs.ForProofs.VisibleSearch.{is_hidden_by}
+use Rattle.papergrid_maps.specs.Visible.{is_visible}
 use Rattle.papergrid_maps.specs.ForProofs.SpanSearch.{effective_span}
 use Rattle.papergrid_values.proofs.KeyLemmas.{position_total}
+use Rattle.papergrid_values.proofs.ResultLemmas.{same_answer}
 use Rattle.papergrid_config.specs.Parts.{character_calls, span_calls}
 use Rattle.papergrid_config.specs.declared.setting.Setting.{Setting}
 use Rattle.papergrid_maps.specs.Grids.{Grid, size_after, size_before}
-use Rattle.papergrid_config.specs.Grids.{line_along}
+use Rattle.papergrid_tables.specs.LineTests.{line_along}
 use Rattle.papergrid_tracks.specs.declared.sizing.Sizing.{Sizing}
 use Rattle.papergrid_script.specs.declared.answer.RunEnd.{RunEnd}
 use Rattle.papergrid_script.specs.declared.answer.RunEnd.TheVariants.{BadScript}
@@ -161,9 +166,10 @@ spans-entries held Columns p = λ i. unwrap_or (get-entries held.columns p i) 1
 spans-entries held Rows p = λ i. unwrap_or (get-entries held.rows p i) 1
 
 shows-entries : (held : Spans) (p : Position) → is_visible held p ≡ shows_by (entries held.columns) (entries held.rows) p
-shows-entries held p = λ i.
-    not (is_hidden_by (λ d q. spans-entries held d q i)
-    (map (λ e. e.0) (entries held.columns) ++ map (λ e. e.0) (entries held.rows)) p)
+shows-entries held p =
+    same_answer _ _ (visible_test held p).1 (seen_visible held p, visible_seen held p)
+    ∙ (λ i. not (is_hidden_by (λ d q. spans-entries held d q i)
+    (map (λ e. e.0) (entries held.columns) ++ map (λ e. e.0) (entries held.rows)) p))
 
 module _ (calls : List SpanCall) where
   abbrev anchors : List Position
@@ -194,8 +200,10 @@ lines_listed calls Columns count position = vertical_listed calls position count
 lines_listed calls Rows count position = horizontal_listed calls position count
 
 made_lines : (calls : List (BorderCall ℕ)) (direction : Direction) (count position : ℕ) → line_along (borders_made calls) direction count position ≡ lines_listed calls direction count position
-made_lines calls Columns count position = made_vertical calls position count
-made_lines calls Rows count position = made_horizontal calls position count
+made_lines calls Columns count position =
+    same_answer _ _ (line_test (borders_made calls) Columns count position).1 (vertical_tested (borders_made calls) position count) ∙ made_vertical calls position count
+made_lines calls Rows count position =
+    same_answer _ _ (line_test (borders_made calls) Rows count position).1 (horizontal_tested (borders_made calls) position count) ∙ made_horizontal calls position count
 
 abbrev pub grid_by : (Position → Sides Indent) → List (Position × ℕ) → List (Position × ℕ) → List (BorderCall ℕ) → Grid
 grid_by padding columns rows lines = record {

@@ -20,9 +20,9 @@ use Rattle.papergrid_config.specs.declared.setting.Setting.{Setting}
 use Rattle.papergrid_config.specs.declared.setting.Setting.TheVariants.{SetPadding, SetColumnSpan, SetRowSpan, SetBorders, InsertVerticalLine, InsertHorizontalLine, RemoveVerticalLine, RemoveHorizontalLine}
 use Rattle.papergrid_values.specs.Compact.{spaces}
 use Rattle.papergrid_text.specs.Text.{character_of}
-use Rattle.papergrid_script.specs.Grammar.{◌>>=◌, pair_at, parted_at, number_said, position_said, position_and_count, entity_said, sides_of, padding_of, number_and_character, keyword_setting, keyword_says, text_says, line_says}
-use Rattle.papergrid_script.specs.Spelling.{Said, Nothing, Columns, Set, Row, Cell, vertical_main, horizontal_main}
-use Rattle.papergrid_script.specs.Spelling.{IsNumber, IsPosition, IsEntity, AreSides, IsCharacter, IsSetting, Pad, Colspan, Rowspan, Border, Vline, Hline, Novline, Nohline, Means, Ended, Plain, Newline, Tab, Backslash, IsLine}
+use Rattle.papergrid_script.specs.Grammar.{◌>>=◌, pair_at, parted_at, number_said, position_said, position_and_count, entity_said, sides_of, padding_of, number_and_character, keyword_setting, keyword_says, text_says, line_says, vertical_main, horizontal_main}
+use Rattle.papergrid_script.specs.Spelling.{Said, Nothing, Columns, Set, Row, Cell}
+use Rattle.papergrid_script.specs.Spelling.{IsNumber, IsPosition, IsEntity, AreSides, Four, IsCharacter, IsSetting, Pad, Colspan, Rowspan, Border, Vline, Hline, Novline, Nohline, Means, Ended, Plain, Newline, Tab, Backslash, IsLine}
 use Rattle.papergrid_script.proofs.CharacterLemmas.{character_read, text_behind}
 use Rattle.papergrid_script.specs.Texts.{unescaped, escape_of, put_first}
 use Rattle.papergrid_maps.proofs.EffectiveCallLemmas.{chosen}
@@ -128,19 +128,11 @@ sides_read bytes sides h =
     let r = bind_some (λ r. number_said at_t.0.0 >>= λ t. number_said at_t.0.1 >>= λ b. Some (sides_with l.0 r t b)) (number_said at_r.0.0) sides l.2 in
     let t = bind_some (λ t. number_said at_t.0.1 >>= λ b. Some (sides_with l.0 r.0 t b)) (number_said at_t.0.0) sides r.2 in
     let b = bind_some (λ b. Some (sides_with l.0 r.0 t.0 b)) (number_said at_t.0.1) sides t.2 in
-    subst (AreSides bytes) (same_Some _ _ b.2) (record {
-      left = at_l.0.0;
-      right = at_r.0.0;
-      top = at_t.0.0;
-      bottom = at_t.0.1;
-      is_left = number_read _ _ l.1;
-      is_right = number_read _ _ r.1;
-      is_top = number_read _ _ t.1;
-      is_bottom = number_read _ _ b.1;
-      filled = refl;
-      spelled = parted 32 bytes at_l.0 at_l.1 ∙ ap (λ rest. at_l.0.0 ++ 32 ∷ rest) (parted 32 at_l.0.1 at_r.0 at_r.1)
-          ∙ ap (λ rest. at_l.0.0 ++ 32 ∷ (at_r.0.0 ++ 32 ∷ rest)) (parted 32 at_r.0.1 at_t.0 at_t.1);
-    })
+    let spelled : bytes ≡ at_l.0.0 ++ 32 ∷ (at_r.0.0 ++ 32 ∷ (at_t.0.0 ++ 32 ∷ at_t.0.1)) =
+    parted 32 bytes at_l.0 at_l.1 ∙ ap (λ rest. at_l.0.0 ++ 32 ∷ rest) (parted 32 at_l.0.1 at_r.0 at_r.1)
+    ∙ ap (λ rest. at_l.0.0 ++ 32 ∷ (at_r.0.0 ++ 32 ∷ rest)) (parted 32 at_r.0.1 at_t.0 at_t.1) in
+    subst (AreSides bytes) (same_Some _ _ b.2) (subst (λ text. AreSides text (sides_with l.0 r.0 t.0 b.0)) (sym spelled)
+    (Four at_l.0.0 at_r.0.0 at_t.0.0 at_t.0.1 l.0 r.0 t.0 b.0 (number_read _ _ l.1) (number_read _ _ r.1) (number_read _ _ t.1) (number_read _ _ b.1)))
 
 padding_read : (bytes : List ℕ) (setting : Setting) → padding_of bytes ≡ Some setting → IsSetting (codes "pad " ++ bytes) setting
 unfolding padding_of

@@ -1,5 +1,5 @@
 -- Why an input has no sizes, beside how its run ends and what that writes.
-use Rattle.std.proofs.Common.{◌≡◌, ℕ, ap, refl, subst, sym}
+use Rattle.std.proofs.Common.{◌≡◌, ℕ, ap, refl, sym}
 use Rattle.std.specs.Prelude.{◌↔◌, None, Some, flat_map, length}
 use Rattle.papergrid_values.specs.declared.direction.Direction.{Direction}
 use Rattle.papergrid_values.specs.declared.direction.Direction.TheVariants.{Columns, Rows}
@@ -45,10 +45,10 @@ module _ (table : Table) where
     (λ is. (
       reason.OutOfTable position (span_of Rows position, span_of Columns position) (length table.rows, table.columns),
       (span_of Rows position, span_of Columns position, is_span Rows position, is_span Columns position, refl),
-      tt,
+      (λ number is. cc is),
     )),
   )
-  refusal TooLarge = (λ is. refl, λ is. (reason.TooLarge, refl, tt))
+  refusal TooLarge = (λ is. refl, λ is. (reason.TooLarge, refl, λ number bad. cc bad))
   refusal (Sized found) = (λ is. cc is.1, λ is. cc is)
 
   written : (e : Estimate) (r : Reason) → IsEstimateReason table e (Some r) → estimate_text e ≡ reason_text r
@@ -67,7 +67,7 @@ bad_line_where_bad (BadLine number) = (λ is. refl, λ is. (number, refl))
 bad_line_where_bad (Estimated table estimate) = never_bad table estimate
 
 pub refusal_where_refused : (outcome : Outcome) → ((r : Reason) × IsOutcomeReason outcome (Some r) × IsTableReason r) ↔ (outcome_end outcome ≡ Refused)
-refusal_where_refused (BadLine number) = (λ is. let same : is.0 ≡ reason.BadLine number = cc is.1 in absurd (subst IsTableReason same is.2), λ is. cc is)
+refusal_where_refused (BadLine number) = (λ is. let same : is.0 ≡ reason.BadLine number = cc is.1 in absurd (is.2 number same), λ is. cc is)
 refusal_where_refused (Estimated table estimate) = refusal table estimate
 
 pub written_as : (outcome : Outcome) (r : Reason) → IsOutcomeReason outcome (Some r) → outcome_text outcome ≡ reason_text r

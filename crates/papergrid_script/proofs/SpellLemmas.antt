@@ -21,7 +21,7 @@ use Rattle.papergrid_config.specs.declared.setting.Setting.{Setting}
 use Rattle.papergrid_config.specs.declared.setting.Setting.TheVariants.{SetPadding}
 use Rattle.papergrid_script.specs.Spelling.{Said, Nothing, Columns, Set, Row, Cell}
 use Rattle.papergrid_script.specs.Grammar.{parted_at, number_said, position_said, position_and_count, entity_said, sides_of, padding_of, number_and_character, keyword_setting, keyword_says, text_says, line_says}
-use Rattle.papergrid_script.specs.Spelling.{IsNumber, IsPosition, IsEntity, AreSides, IsCharacter, IsSetting, Pad, Colspan, Rowspan, Border, Vline, Hline, Novline, Nohline, Means, Ended, Plain, Newline, Tab, Backslash, IsLine}
+use Rattle.papergrid_script.specs.Spelling.{IsNumber, IsPosition, IsEntity, AreSides, Four, IsCharacter, IsSetting, Pad, Colspan, Rowspan, Border, Vline, Hline, Novline, Nohline, Means, Ended, Plain, Newline, Tab, Backslash, IsLine}
 use Rattle.papergrid_script.proofs.CharacterLemmas.{character_spelled}
 use Rattle.papergrid_script.proofs.ReadLemmas.{cell_at}
 use Rattle.papergrid_script.specs.Texts.{unescaped, put_first}
@@ -104,19 +104,18 @@ entity_lacks bytes (entities.Cell r c) h = position_lacks bytes (record { row = 
 
 sides_spelled : (bytes : List ℕ) (sides : Sides Indent) → AreSides bytes sides → sides_of bytes ≡ Some sides
 unfolding sides_of
-sides_spelled bytes sides h =
+sides_spelled _ _ (Four left right top bottom l r t b is_left is_right is_top is_bottom) =
     let no_space = λ (digits : List ℕ) (n : ℕ) (is : IsNumber digits n). digits_lack 32 digits (lit< tt) is.digits_alone in
     rw (
-      h.spelled,
-      parted_after 32 h.left (h.right ++ 32 ∷ (h.top ++ 32 ∷ h.bottom)) (no_space h.left _ h.is_left),
-      parted_after 32 h.right (h.top ++ 32 ∷ h.bottom) (no_space h.right _ h.is_right),
-      parted_after 32 h.top h.bottom (no_space h.top _ h.is_top),
-      number_spelled h.left _ h.is_left,
-      number_spelled h.right _ h.is_right,
-      number_spelled h.top _ h.is_top,
-      number_spelled h.bottom _ h.is_bottom,
+      parted_after 32 left (right ++ 32 ∷ (top ++ 32 ∷ bottom)) (no_space left l is_left),
+      parted_after 32 right (top ++ 32 ∷ bottom) (no_space right r is_right),
+      parted_after 32 top bottom (no_space top t is_top),
+      number_spelled left l is_left,
+      number_spelled right r is_right,
+      number_spelled top t is_top,
+      number_spelled bottom b is_bottom,
     )
-    (ap Some (sym h.filled))
+    refl
 
 padding_spelled : (spelled rest : List ℕ) (entity : Entity) (sides : Sides Indent) → IsEntity spelled entity → AreSides rest sides → padding_of (spelled ++ 32 ∷ rest) ≡ Some (SetPadding entity sides)
 unfolding padding_of

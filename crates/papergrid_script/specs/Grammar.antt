@@ -3,6 +3,9 @@ use Rattle.std.specs.Prelude.{ℕ, ◌^◌, ◌&&◌, List, [], length, drop, Op
 use Rattle.std.specs.List.{starts_with, before_first, after_first, before_last, after_last, position_or_len}
 use Rattle.std.specs.Str.{is_utf8, all_ascii_digits}
 use Rattle.std.specs.Str.Parse.{digits_value}
+use Rattle.papergrid_values.specs.Lines.{horizontal_with, vertical_with}
+use Rattle.papergrid_values.specs.declared.horizontal_line.HorizontalLine.{HorizontalLine}
+use Rattle.papergrid_values.specs.declared.vertical_line.VerticalLine.{VerticalLine}
 use Rattle.papergrid_values.specs.Compact.{spaces}
 use Rattle.papergrid_values.specs.declared.entity.Entity.{Entity}
 use Rattle.papergrid_values.specs.declared.entity.Entity.TheVariants as entities
@@ -14,8 +17,16 @@ use Rattle.papergrid_values.specs.Positions as positions
 use Rattle.papergrid_config.specs.declared.setting.Setting.{Setting}
 use Rattle.papergrid_config.specs.declared.setting.Setting.TheVariants.{SetPadding, SetColumnSpan, SetRowSpan, SetBorders, InsertVerticalLine, InsertHorizontalLine, RemoveVerticalLine, RemoveHorizontalLine}
 use Rattle.papergrid_text.specs.Text.{character_of}
-use Rattle.papergrid_script.specs.Spelling.{Said, Nothing, Columns, Set, Row, Cell, comma, space, horizontal_main, vertical_main}
+use Rattle.papergrid_script.specs.Spelling.{Said, Nothing, Columns, Set, Row, Cell, comma, space}
 use Rattle.papergrid_script.specs.Texts.{unescaped}
+
+-- lines of one character, whose crossings and ends are not set
+abbrev pub vertical_main : ℕ → VerticalLine ℕ
+vertical_main c = record (vertical_with None) { main = Some c }
+
+-- the same of a horizontal line
+abbrev pub horizontal_main : ℕ → HorizontalLine ℕ
+horizontal_main c = record (horizontal_with None) { main = Some c }
 
 infixl 10 ◌>>=◌
 -- the second step with what the first gave, where it gave something

@@ -1,5 +1,5 @@
 -- Why an input has no sizes.
-use Rattle.std.specs.Prelude.{◌≡◌, ℕ, List, flat_map, length, Option, Some, None, ⊤}
+use Rattle.std.specs.Prelude.{◌≡◌, ◌≢◌, ℕ, List, flat_map, length, Option, Some, None}
 use Rattle.papergrid_values.specs.declared.direction.Direction.TheVariants.{Columns, Rows}
 use Rattle.papergrid_maps.specs.Spans.{IsEffectiveSpan}
 use Rattle.papergrid_config.specs.Parts.{span_calls}
@@ -31,6 +31,4 @@ reason_text reason.TooLarge = estimate_text TooLarge
 
 -- a reason why a table is refused, and no bad line
 abbrev pub IsTableReason : Reason → Type 0
-IsTableReason (reason.BadLine number) = ⊥
-IsTableReason (reason.OutOfTable position spans shape) = ⊤
-IsTableReason reason.TooLarge = ⊤
+IsTableReason why = (number : ℕ) → why ≢ reason.BadLine number

@@ -6,11 +6,10 @@ use Rattle.std.specs.Str.Parse.{digits_value}
 use Rattle.papergrid_values.specs.declared.entity.Entity.{Entity}
 use Rattle.papergrid_values.specs.declared.entity.Entity.TheVariants as entities
 use Rattle.papergrid_values.specs.declared.indent.Indent.{Indent}
-use Rattle.papergrid_values.specs.declared.horizontal_line.HorizontalLine.{HorizontalLine}
 use Rattle.papergrid_values.specs.declared.position.Position.{Position}
 use Rattle.papergrid_values.specs.declared.sides.Sides.{Sides}
-use Rattle.papergrid_values.specs.declared.vertical_line.VerticalLine.{VerticalLine}
 use Rattle.papergrid_values.specs.Borders.{frame_with}
+use Rattle.papergrid_values.specs.Lines.{horizontal_with, vertical_with}
 use Rattle.papergrid_config.specs.declared.setting.Setting.{Setting}
 use Rattle.papergrid_config.specs.declared.setting.Setting.TheVariants.{SetPadding, SetColumnSpan, SetRowSpan, SetBorders, InsertVerticalLine, InsertHorizontalLine, RemoveVerticalLine, RemoveHorizontalLine}
 use Rattle.papergrid_values.specs.Compact.{spaces}
@@ -51,30 +50,14 @@ IsEntity bytes (entities.Row r) = (digits : List ℕ) × IsNumber digits r × (b
 IsEntity bytes (entities.Cell r c) = IsPosition bytes (record { row = r; col = c })
 
 -- so many spaces left, right, above and below: four numbers, and a space between each two
-pub record AreSides (bytes : List ℕ) (sides : Sides Indent) : Type 0 where
-  pub left : List ℕ
-  pub right : List ℕ
-  pub top : List ℕ
-  pub bottom : List ℕ
-  pub is_left : IsNumber left sides.left.size
-  pub is_right : IsNumber right sides.right.size
-  pub is_top : IsNumber top sides.top.size
-  pub is_bottom : IsNumber bottom sides.bottom.size
-  pub filled : sides ≡ record { top = spaces sides.top.size; bottom = spaces sides.bottom.size; left = spaces sides.left.size; right = spaces sides.right.size }
-  pub spelled : bytes ≡ left ++ space ∷ (right ++ space ∷ (top ++ space ∷ bottom))
+pub data AreSides : List ℕ → Sides Indent → Type 0 where
+  Four : (left right top bottom : List ℕ) (l r t b : ℕ) → IsNumber left l → IsNumber right r → IsNumber top t → IsNumber bottom b
+      → AreSides (left ++ space ∷ (right ++ space ∷ (top ++ space ∷ bottom))) (record { top = spaces t; bottom = spaces b; left = spaces l; right = spaces r })
 
 -- one character
 pub record IsCharacter (bytes : List ℕ) (c : ℕ) : Type 0 where
   pub scalar : IsScalar c
   pub spelled : bytes ≡ encode_utf8 c
-
--- lines of one character, whose crossings and ends are not set
-abbrev pub vertical_main : ℕ → VerticalLine ℕ
-vertical_main c = record { main = Some c; intersection = None; top = None; bottom = None }
-
--- the same of a horizontal line
-abbrev pub horizontal_main : ℕ → HorizontalLine ℕ
-horizontal_main c = record { main = Some c; intersection = None; left = None; right = None }
 
 -- a line that sets something, and what it sets
 pub data IsSetting : List ℕ → Setting → Type 0 where
@@ -86,9 +69,9 @@ pub data IsSetting : List ℕ → Setting → Type 0 where
       → IsSetting (codes "rowspan " ++ (spelled ++ space ∷ digits)) (SetRowSpan position n)
   Border : (x : List ℕ) (c : ℕ) → IsCharacter x c → IsSetting (codes "border " ++ x) (SetBorders (frame_with (Some c)))
   Vline : (digits x : List ℕ) (col c : ℕ) → IsNumber digits col → IsCharacter x c
-      → IsSetting (codes "vline " ++ (digits ++ space ∷ x)) (InsertVerticalLine col (vertical_main c))
+      → IsSetting (codes "vline " ++ (digits ++ space ∷ x)) (InsertVerticalLine col (record (vertical_with None) { main = Some c }))
   Hline : (digits x : List ℕ) (row c : ℕ) → IsNumber digits row → IsCharacter x c
-      → IsSetting (codes "hline " ++ (digits ++ space ∷ x)) (InsertHorizontalLine row (horizontal_main c))
+      → IsSetting (codes "hline " ++ (digits ++ space ∷ x)) (InsertHorizontalLine row (record (horizontal_with None) { main = Some c }))
   Novline : (digits : List ℕ) (col : ℕ) → IsNumber digits col → IsSetting (codes "novline " ++ digits) (RemoveVerticalLine col 0)
   Nohline : (digits : List ℕ) (row : ℕ) → IsNumber digits row → IsSetting (codes "nohline " ++ digits) (RemoveHorizontalLine row 0)
 

@@ -11,6 +11,14 @@ use Rattle.papergrid_tables.specs.StoredBorders.{StoredBorders, parts_of_borders
 use Rattle.papergrid_tables.specs.BorderSame.{HoldTheSameBorders, same_parts}
 use Rattle.papergrid_tables.specs.ForProofs.BorderEq.{borders_eq, horizontal_line_eq, parts_eq, vertical_line_eq}
 
+-- four tests, each of which holds
+pub and_four : {a b c d : Bool} → (a && (b && (c && d))) ≡ true → (a ≡ true) × (b ≡ true) × (c ≡ true) × (d ≡ true)
+and_four h =
+    let first = and_parts _ _ h in
+    let second = and_parts _ _ first.1 in
+    let third = and_parts _ _ second.1 in
+    (first.0, second.0, third.0, third.1)
+
 module _ {T : Type 0} (eq : T → T → Bool) where
   parts_pointwise : (xs ys : List (Option T)) → parts_eq eq xs ys ≡ same_parts eq xs ys
   parts_pointwise [] [] = refl
@@ -33,22 +41,18 @@ module _ {T : Type 0} (eq : T → T → Bool) where
 
       there : borders_eq eq s t ≡ true → HoldTheSameBorders eq (parts_of_borders s) (parts_of_borders t)
       there h =
-          let a = and_parts _ _ h in
-          let b = and_parts _ _ a.1 in
-          let c = and_parts _ _ b.1 in
-          let d = and_parts _ _ c.1 in
-          let e = and_parts _ _ d.1 in
-          let f = and_parts _ _ e.1 in
+          let a = and_four h in
+          let b = and_four a.3 in
           record {
             global = a.0;
-            frame = sym frames ∙ b.0;
+            frame = sym frames ∙ a.1;
             horizontal_line = λ n. sym (lines_pointwise horizontal_parts (get s.horizontal_lines n) (get t.horizontal_lines n))
-                ∙ (numbers_agree (horizontal_line_eq eq) s.horizontal_lines t.horizontal_lines).0 c.0 n;
+                ∙ (numbers_agree (horizontal_line_eq eq) s.horizontal_lines t.horizontal_lines).0 a.2 n;
             vertical_line = λ n. sym (lines_pointwise vertical_parts (get s.vertical_lines n) (get t.vertical_lines n))
-                ∙ (numbers_agree (vertical_line_eq eq) s.vertical_lines t.vertical_lines).0 d.0 n;
-            horizontal_edge = (positions_agree eq s.horizontal_edges t.horizontal_edges).0 e.0;
-            vertical_edge = (positions_agree eq s.vertical_edges t.vertical_edges).0 f.0;
-            corner = (positions_agree eq s.corners t.corners).0 f.1;
+                ∙ (numbers_agree (vertical_line_eq eq) s.vertical_lines t.vertical_lines).0 b.0 n;
+            horizontal_edge = (positions_agree eq s.horizontal_edges t.horizontal_edges).0 b.1;
+            vertical_edge = (positions_agree eq s.vertical_edges t.vertical_edges).0 b.2;
+            corner = (positions_agree eq s.corners t.corners).0 b.3;
           }
 
       back : HoldTheSameBorders eq (parts_of_borders s) (parts_of_borders t) → borders_eq eq s t ≡ true

@@ -1,13 +1,13 @@
 -- What is found in a border table, and which lines it has, by the entries of its maps.
-use Rattle.std.proofs.Common.{◌≡◌, ℕ, Bor, Bool, true, false, ◌&&◌, List, [], length, eqb, Option, Some, None, refl, sym, ap, ◌∙◌, inl, inr, ⊎_elim}
-use Rattle.std.specs.Prelude.{◌||◌, ◌⊎◌, ◌↔◌, IsFalse, IsTrue, IsSome, is_some, is_none, not}
+use Rattle.std.proofs.Common.{◌≡◌, ℕ, Bor, Bool, true, false, ◌&&◌, List, [], length, eqb, Option, Some, None, refl, sym, ap, ◌∙◌}
+use Rattle.std.specs.Prelude.{◌↔◌, IsFalse, IsTrue, IsSome, is_some, is_none, not}
 use Rattle.std.specs.Option.{option_or, option_copied}
 use Rattle.std.specs.List.{list_any, IsDistinct}
 use Rattle.std.specs.Cmp.{nat_eq_equiv}
 use Rattle.std.specs.Map.{lookup, keys_of}
 use Rattle.std.specs.Ordering.{nat_cmp}
 use Rattle.std.specs.FinMap.{get, from_entries}
-use Rattle.std.proofs.lemmas.Bool.{false≢true, and_parts, and_from, or_left, or_right, eqb-true, eq-eqb}
+use Rattle.std.proofs.lemmas.Bool.{false≢true, and_parts, and_from, eqb-true}
 use Rattle.papergrid_values.specs.Borders.{frame_parts, frame_with}
 use Rattle.papergrid_values.specs.Parts.{none_set}
 use Rattle.papergrid_values.specs.declared.position.Position.{Position}
@@ -17,6 +17,7 @@ use Rattle.papergrid_values.specs.declared.vertical_line.VerticalLine.{VerticalL
 use Rattle.papergrid_tables.specs.StoredBorders.{HasBorderHistory, parts_of_borders}
 use Rattle.papergrid_tables.specs.BorderScan.{has_end}
 use Rattle.papergrid_values.specs.MapKeys.{position_eq}
+use Rattle.papergrid_tables.specs.ForProofs.LineTested.{has_end_is}
 use Rattle.papergrid_tables.specs.BorderParts.{HasEnd, HasNoCellParts, BorderParts}
 use Rattle.papergrid_values.proofs.AnyLemmas.{any_found, any_from_found}
 use Rattle.papergrid_tables.proofs.BorderHistory.{table_of}
@@ -50,19 +51,6 @@ module _ {T : Type 0} where
 
 -- ---- scans
 
-pub has_end_is : {T : Type 0} (index count : ℕ) (first end : Option T) → IsTrue (has_end index count first end) ↔ HasEnd index count first end
-has_end_is index count first end = (
-  (λ h. elim (eqb index 0 && is_some first) as (λ b. (eqb index 0 && is_some first) ≡ b → (b || (eqb index count && is_some end)) ≡ true → HasEnd index count first end) [
-    | true ↦ λ is _. let parts = and_parts _ _ is in inl (eqb-true index 0 parts.0, parts.1)
-    | false ↦ λ _ rest. let parts = and_parts _ _ rest in inr (eqb-true index count parts.0, parts.1)
-  ] refl h),
-  (λ h. ⊎_elim (λ here. or_left _ _ (and_from _ _ (eq-eqb index 0 here.0) here.1)) (λ there. or_right _ _ (and_from _ _ (eq-eqb index count there.0) there.1)) h),
-)
-
-pub some_value : {A : Type 0} (o : Option A) → IsSome o → (x : A) × (o ≡ Some x)
-some_value None h = absurd (false≢true h)
-some_value (Some x) h = (x, refl)
-
 -- an end of a line
 pub ends_scan : {L T : Type 0} (first end : L → Option T) (index count : ℕ) (es : List (ℕ × L)) (b : Bool) → b ≡ list_any (λ e. has_end index count (first e.1) (end e.1)) es → IsDistinct eqb (keys_of es)
     → IsTrue b ↔ ((n : ℕ) × (line : L) × (get (from_entries {R = nat_cmp} es) n ≡ Some line) × HasEnd index count (first line) (end line))
@@ -74,16 +62,6 @@ ends_scan first end index count es b is distinct =
 
 pub key_scan : {L : Type 0} (es : List (ℕ × L)) (n : ℕ) (b : Bool) → b ≡ is_some (lookup (eqb n) es) → IsTrue b ↔ IsSome (get (from_entries {R = nat_cmp} es) n)
 key_scan es n b is = ((λ h. ap is_some (get_at_number es n) ∙ sym is ∙ h), (λ h. is ∙ ap is_some (sym (get_at_number es n)) ∙ h))
-
--- ---- the first of several tests that holds
-
-pub decided_by_rest : {A B : Type 0} (a b : Bool) → (IsTrue a ↔ A) → (IsTrue b ↔ B) → a ≡ false → IsTrue b ↔ (A ⊎ B)
-decided_by_rest a b first second no_first = ((λ h. inr (second.0 h)), (λ h. ⊎_elim (λ x. absurd (false≢true (sym no_first ∙ first.1 x))) (λ y. second.1 y) h))
-
--- one of two tests
-pub either : {A B : Type 0} (a b : Bool) → (a ≡ true) ↔ A → (b ≡ true) ↔ B → ((a || b) ≡ true) ↔ (A ⊎ B)
-either true b first second = ((λ _. inl (first.0 refl)), (λ _. refl))
-either false b first second = decided_by_rest false b first second refl
 
 -- ---- a table that holds nothing
 

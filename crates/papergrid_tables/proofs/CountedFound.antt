@@ -20,7 +20,8 @@ use Rattle.papergrid_tables.specs.BorderParts.{EndsThere, HasEnd, StandsOn}
 use Rattle.papergrid_tables.specs.declared.counted_lines.Lines.{Lines}
 use Rattle.papergrid_tables.specs.declared.line_counts.LineCounts.{LineCounts}
 use Rattle.papergrid_values.proofs.AnyLemmas.{any_from_found, some_key}
-use Rattle.papergrid_tables.proofs.BorderFound.{either, ends_scan, key_scan, some_value}
+use Rattle.papergrid_tables.proofs.BorderFound.{ends_scan, key_scan}
+use Rattle.papergrid_tables.specs.ForProofs.LineTested.{either, some_value}
 use Rattle.papergrid_values.proofs.KeyLemmas.{exact_position_eq, get_at_position, position_equiv}
 
 -- a count is above 0 where something is counted

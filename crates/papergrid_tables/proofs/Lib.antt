@@ -4,7 +4,6 @@ pub mod BorderFound
 pub mod BorderHistory
 pub mod CountLemmas
 pub mod CountedFound
-pub mod LineTested
 pub mod MadeTables
 pub mod OffsetEqual
 pub mod OverrideHistory

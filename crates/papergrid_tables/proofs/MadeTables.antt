@@ -8,6 +8,7 @@ use Rattle.std.specs.Ordering.{eq_by_cmp, nat_cmp}
 use Rattle.std.specs.declared.cmp.Ordering.{Ordering}
 use Rattle.std.specs.FinMap.{nat_cmp-IsAntisymmetric, same_map}
 use Rattle.std.proofs.lemmas.Bool.{false≢true, or_left, or_right, eqb-true, eq-eqb}
+use Rattle.papergrid_values.specs.declared.direction.Direction.{Direction}
 use Rattle.papergrid_values.specs.declared.direction.Direction.TheVariants.{Columns, Rows}
 use Rattle.papergrid_values.specs.declared.position.Position.{Position}
 use Rattle.papergrid_tables.specs.BorderCalls.{at_position, below, right_of, BorderCall, InsertBorder, RemoveBorder, InsertHorizontalLine, RemoveHorizontalLine, InsertVerticalLine, RemoveVerticalLine, Clear, is_edge_of, is_corner_of, edge_part, corner_part}
@@ -17,7 +18,7 @@ use Rattle.papergrid_tables.specs.ForProofs.Made.{borders_made, named_columns, n
 use Rattle.papergrid_tables.specs.BorderParts.{BorderParts, parts_after_call, no_parts, parts_from}
 use Rattle.papergrid_values.proofs.TabulatedLemmas.{tabulates}
 use Rattle.papergrid_values.proofs.KeyLemmas.{exact_position, exact_positions, position_equiv, position_ties, position_total}
-use Rattle.papergrid_tables.proofs.LineTested.{exact_number}
+use Rattle.papergrid_tables.specs.ForProofs.LineTested.{exact_number}
 
 -- ---- what calls write, they name
 
@@ -102,21 +103,23 @@ either_set : {T : Type 0} (a b : Option T) (m : Bool) → is_some (option_or a b
 either_set None b m h first next = next h
 either_set (Some v) b m h first next = first refl
 
-horizontal_edge_named : {T : Type 0} (call : BorderCall T) (old : BorderParts T) (q : Position) → is_some ((parts_after_call call old).horizontal_edge q) ≡ true
-    → (list_any (eq_by_cmp position_cmp q) (named_positions call) || is_some (old.horizontal_edge q)) ≡ true
-horizontal_edge_named (InsertBorder p b) old q h = gained_named (edge_part Rows p b q) (old.horizontal_edge q) (at_one p q) h
-    (λ set. either_set (at_position p q b.top) (at_position (below p) q b.bottom) (at_one p q) set (at_cell p q b.top) (at_below p q b.bottom))
-horizontal_edge_named (RemoveBorder p) old q h = kept_there (is_edge_of Rows p q) (old.horizontal_edge q) h
-horizontal_edge_named Clear old q h = absurd (false≢true h)
-horizontal_edge_named call old q h = h
+-- the edges of horizontal lines (Rows), or of vertical ones
+abbrev edges_of : {T : Type 0} → Direction → BorderParts T → Position → Option T
+edges_of Rows parts = parts.horizontal_edge
+edges_of Columns parts = parts.vertical_edge
 
-vertical_edge_named : {T : Type 0} (call : BorderCall T) (old : BorderParts T) (q : Position) → is_some ((parts_after_call call old).vertical_edge q) ≡ true
-    → (list_any (eq_by_cmp position_cmp q) (named_positions call) || is_some (old.vertical_edge q)) ≡ true
-vertical_edge_named (InsertBorder p b) old q h = gained_named (edge_part Columns p b q) (old.vertical_edge q) (at_one p q) h
+edge_named : {T : Type 0} (direction : Direction) (call : BorderCall T) (old : BorderParts T) (q : Position) → is_some (edges_of direction (parts_after_call call old) q) ≡ true
+    → (list_any (eq_by_cmp position_cmp q) (named_positions call) || is_some (edges_of direction old q)) ≡ true
+edge_named Rows (InsertBorder p b) old q h = gained_named (edge_part Rows p b q) (old.horizontal_edge q) (at_one p q) h
+    (λ set. either_set (at_position p q b.top) (at_position (below p) q b.bottom) (at_one p q) set (at_cell p q b.top) (at_below p q b.bottom))
+edge_named Columns (InsertBorder p b) old q h = gained_named (edge_part Columns p b q) (old.vertical_edge q) (at_one p q) h
     (λ set. either_set (at_position p q b.left) (at_position (right_of p) q b.right) (at_one p q) set (at_cell p q b.left) (at_right p q b.right))
-vertical_edge_named (RemoveBorder p) old q h = kept_there (is_edge_of Columns p q) (old.vertical_edge q) h
-vertical_edge_named Clear old q h = absurd (false≢true h)
-vertical_edge_named call old q h = h
+edge_named Rows (RemoveBorder p) old q h = kept_there (is_edge_of Rows p q) (old.horizontal_edge q) h
+edge_named Columns (RemoveBorder p) old q h = kept_there (is_edge_of Columns p q) (old.vertical_edge q) h
+edge_named Rows Clear old q h = absurd (false≢true h)
+edge_named Columns Clear old q h = absurd (false≢true h)
+edge_named Rows call old q h = h
+edge_named Columns call old q h = h
 
 corner_named : {T : Type 0} (call : BorderCall T) (old : BorderParts T) (q : Position) → is_some ((parts_after_call call old).corner q) ≡ true
     → (list_any (eq_by_cmp position_cmp q) (named_positions call) || is_some (old.corner q)) ≡ true
@@ -139,8 +142,8 @@ module _ {T : Type 0} where
         frame = (parts_from older).frame;
         horizontal_line = λ n. tabulates nat_cmp_total exact_number (parts_from older).horizontal_line (flat_map named_rows older) (all_named nat_cmp (λ (parts : BorderParts T). parts.horizontal_line) named_rows (λ q h. false≢true h) row_named older) n i;
         vertical_line = λ n. tabulates nat_cmp_total exact_number (parts_from older).vertical_line (flat_map named_columns older) (all_named nat_cmp (λ (parts : BorderParts T). parts.vertical_line) named_columns (λ q h. false≢true h) column_named older) n i;
-        horizontal_edge = λ p. tabulates position_total exact_position (parts_from older).horizontal_edge (flat_map named_positions older) (all_named position_cmp (λ (parts : BorderParts T). parts.horizontal_edge) named_positions (λ q h. false≢true h) horizontal_edge_named older) p i;
-        vertical_edge = λ p. tabulates position_total exact_position (parts_from older).vertical_edge (flat_map named_positions older) (all_named position_cmp (λ (parts : BorderParts T). parts.vertical_edge) named_positions (λ q h. false≢true h) vertical_edge_named older) p i;
+        horizontal_edge = λ p. tabulates position_total exact_position (parts_from older).horizontal_edge (flat_map named_positions older) (all_named position_cmp (λ (parts : BorderParts T). parts.horizontal_edge) named_positions (λ q h. false≢true h) (edge_named Rows) older) p i;
+        vertical_edge = λ p. tabulates position_total exact_position (parts_from older).vertical_edge (flat_map named_positions older) (all_named position_cmp (λ (parts : BorderParts T). parts.vertical_edge) named_positions (λ q h. false≢true h) (edge_named Columns) older) p i;
         corner = λ p. tabulates position_total exact_position (parts_from older).corner (flat_map named_positions older) (all_named position_cmp (λ (parts : BorderParts T). parts.corner) named_positions (λ q h. false≢true h) corner_named older) p i;
       }
 

@@ -5,6 +5,8 @@ pub mod CountedLines
 pub mod CountedParts
 pub mod CountedTable
 pub mod Counts
+pub mod LineSearch
+pub mod LineTested
 pub mod Made
 pub mod Maps
 pub mod OffsetEq

@@ -164,25 +164,18 @@ pub(crate) fn is_set_at<A, L>(
     ensures { result ≡ (reaches index.0 index.1 lines.entry.0.now
         || is_stored lines.entry.1.now.values counts.entry.0.now counts.entry.1.now index.0) }
 {
-    lines.0.reach(index.0, index.1) || is_stored_at(index.0, &lines.1.values, counts)
-}
-
-// Most tables hold none at all.
-fn is_stored_at<L>(
-    line: usize,
-    lines: &HashMap<usize, L>,
-    counts: (&LineCounts, &LineCounts),
-) -> bool
-    ensures { result ≡ is_stored lines.now counts.entry.0.now counts.entry.1.now line }
-{
-    if lines.is_empty() && counts.0.is_bare() && counts.1.is_bare() {
+    if lines.0.reach(index.0, index.1) {
+        return true;
+    }
+    // Most tables hold none at all.
+    if lines.1.values.is_empty() && counts.0.is_bare() && counts.1.is_bare() {
         return false;
     }
-    is_found_at(line, lines, counts)
+    is_found_at(index.0, &lines.1.values, counts)
 }
 
-// The same by look-ups. They stand apart, so that a question about a table that holds none keeps no
-// registers for them.
+// Whether a line is stored, or a count is above 0, by look-ups. They stand apart, so that a question about a
+// table that holds none keeps no registers for them.
 #[inline(never)]
 fn is_found_at<L>(
     line: usize,

@@ -10,7 +10,7 @@ ghost use Rattle.papergrid_values.specs.declared.direction.Direction.TheVariants
 ghost use Rattle.papergrid_tables.specs.BorderCalls.{BorderCall, Clear, InsertBorder, RemoveBorder, InsertHorizontalLine, RemoveHorizontalLine, InsertVerticalLine, RemoveVerticalLine, SetBorders, SetGlobal};
 ghost use Rattle.papergrid_tables.specs.StoredBorders.{HasBorderHistory, parts_of_borders};
 ghost use Rattle.papergrid_values.specs.MapKeys.{position_eq};
-ghost use Rattle.papergrid_tables.specs.LineTests.{horizontal_line_at, vertical_line_at};
+ghost use Rattle.papergrid_tables.specs.LineTests.{line_along};
 ghost use Rattle.papergrid_tables.specs.BorderParts.{HasNoCellParts, IsSet, found_border, found_horizontal, found_intersection, found_vertical, HasLine};
 
 use crate::border_parts as parts;
@@ -236,7 +236,7 @@ impl<T> BorderTable<T> {
     /// all lines, a part of the frame, or `is_vertical_set`.
     pub fn has_vertical(&self, col: usize, count: usize) -> bool
         ensures line { IsTrue result ↔ HasLine Columns (parts_of_borders self.now) col count }
-        ensures test { result ≡ vertical_line_at self.now col count }
+        ensures test { result ≡ line_along self.now Columns count col }
     {
         let is_drawn = self.global.is_some() || parts::in_frame_vertical(&self.frame, col, count);
         is_drawn || self.is_vertical_set(col, count)
@@ -246,7 +246,7 @@ impl<T> BorderTable<T> {
     /// lines, a part of the frame, or `is_horizontal_set`.
     pub fn has_horizontal(&self, row: usize, count: usize) -> bool
         ensures line { IsTrue result ↔ HasLine Rows (parts_of_borders self.now) row count }
-        ensures test { result ≡ horizontal_line_at self.now row count }
+        ensures test { result ≡ line_along self.now Rows count row }
     {
         let is_drawn = self.global.is_some() || parts::in_frame_horizontal(&self.frame, row, count);
         is_drawn || self.is_horizontal_set(row, count)

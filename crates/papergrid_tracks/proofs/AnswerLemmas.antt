@@ -21,7 +21,8 @@ use Rattle.papergrid_tracks.specs.Ranges.{IsInTable, first_out}
 use Rattle.papergrid_tracks.specs.Sizes.{base_sizes, grown_sizes, sizes_of, by_span}
 use Rattle.papergrid_tracks.proofs.DrawnLemmas.{lines-drawn, sizes-drawn}
 use Rattle.papergrid_tracks.proofs.OutLemmas.{AreSizesTooLarge-large, large_any, out_kept, table_demands}
-use Rattle.papergrid_tracks.proofs.DemandLemmas.{base-kept, by_span-kept}
+use Rattle.papergrid_tracks.proofs.DemandLemmas.{by_span-kept}
+use Rattle.papergrid_tracks.proofs.SettleLemmas.{base-all, table-all}
 use Rattle.papergrid_tracks.specs.declared.limits.Limits.{Limits}
 use Rattle.papergrid_tracks.specs.LowestPositions.{lowest_position}
 use Rattle.papergrid_tracks.specs.TrackBoundaries.{net_minimum, boundaries_of, sizes_between}
@@ -59,10 +60,10 @@ module _ {line : ℕ → Bool} {n : ℕ} {kept : Demands} {demands : List Demand
   drawn = line_at lines
 
   table : All (IsInTable n) demands
-  table = table_demands n kept demands is_kept begun.inside
+  table = table-all is_kept begun
 
   base_is : base ≡ base_sizes n demands
-  base_is = base-kept n kept demands is_kept begun.small base begun.many begun.base_at
+  base_is = base-all is_kept begun
 
   abbrev asking : List Demand
   asking = map (with_net_minimum (net_minimum drawn)) kept.rest.items

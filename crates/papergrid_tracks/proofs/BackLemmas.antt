@@ -54,6 +54,19 @@ LaidFrom-none base cells boundaries table one_more = record {
   above = λ boundary are le i from l. let e : i ≡ length base = omega arith in rw e le;
 }
 
+-- boundaries that are laid back from track a, and stay as they were past it
+steps-joined : (base boundaries joined : List ℕ) (first a : ℕ) → AreSteps base a (length base) (λ i. get_or boundaries i 0) →
+    ((i : ℕ) → a ≤ i → get_or joined i 0 ≡ get_or boundaries i 0) → ((i : ℕ) → first ≤ i → i < a → get_or joined (i + 1) 0 ≡ get_or joined i 0 + get_or base i 0) →
+    AreSteps base first (length base) (λ i. get_or joined i 0)
+steps-joined base boundaries joined first a steps after laid i from l = elim (cases_lt i a) [
+  | inl early ↦ let s : get_or joined (i + 1) 0 ≡ get_or joined i 0 + get_or base i 0 = laid i from early in omega arith
+  | inr late ↦
+      let s : get_or boundaries i 0 + get_or base i 0 ≤ get_or boundaries (i + 1) 0 = steps i late l in
+      let p : get_or joined i 0 ≡ get_or boundaries i 0 = after i late in
+      let q : get_or joined (i + 1) 0 ≡ get_or boundaries (i + 1) 0 = after (i + 1) (omega arith) in
+      omega arith
+]
+
 -- one step of the loop: boundaries laid back to the start of the next cell, as `mid`
 module _ (base : List ℕ) (cells : List Demand) (table : All (IsInTable (length base)) cells) (sorted : AreLaterFirst cells) (k a total : ℕ) (boundaries mid : List ℕ) (listed : k < length cells)
     (laid_from : LaidFrom base cells k a total boundaries) (same : length mid ≡ length boundaries) (after : (i : ℕ) → a ≤ i → get_or mid i 0 ≡ get_or boundaries i 0)
@@ -117,14 +130,8 @@ module _ (base : List ℕ) (cells : List Demand) (table : All (IsInTable (length
     steps-moved i from l =
         let x : get_or moved i 0 ≤ get_or mid i 0 = not_more i in
         let y : get_or moved (i + 1) 0 ≡ get_or mid (i + 1) 0 = elsewhere (i + 1) (omega arith) in
-        elim (cases_lt i a) [
-          | inl early ↦ let s : get_or mid (i + 1) 0 ≡ get_or mid i 0 + get_or base i 0 = laid i from early in omega arith
-          | inr late ↦
-              let s : get_or boundaries i 0 + get_or base i 0 ≤ get_or boundaries (i + 1) 0 = laid_from.steps i late l in
-              let p : get_or mid i 0 ≡ get_or boundaries i 0 = after i late in
-              let q : get_or mid (i + 1) 0 ≡ get_or boundaries (i + 1) 0 = after (i + 1) (omega arith) in
-              omega arith
-        ]
+        let s : get_or mid i 0 + get_or base i 0 ≤ get_or mid (i + 1) 0 = steps-joined base boundaries mid (get_or cells k no_cell).start a laid_from.steps after laid i from l in
+        omega arith
 
     abbrev Apart : Demand → Type 0
     Apart d = ((get_or cells k no_cell).start ≤ d.start) × (get_or moved d.start 0 + d.minimum ≤ get_or moved (end_of d) 0)
@@ -202,18 +209,8 @@ module _ (base : List ℕ) (cells : List Demand) (k a total : ℕ) (boundaries w
   ]
 
   pub AreLaid-back : AreLaid base cells (λ i. get_or whole i 0)
-  AreLaid-back = record { steps = steps-back; apart = λ j d l. apart-back (get_or cells j d) (laid_from.apart j d (omega arith)) }
+  AreLaid-back = record { steps = steps-joined base boundaries whole 0 a laid_from.steps after laid; apart = λ j d l. apart-back (get_or cells j d) (laid_from.apart j d (omega arith)) }
     where
-      steps-back : AreSteps base 0 (length base) (λ i. get_or whole i 0)
-      steps-back i from l = elim (cases_lt i a) [
-        | inl early ↦ let s : get_or whole (i + 1) 0 ≡ get_or whole i 0 + get_or base i 0 = laid i from early in omega arith
-        | inr late ↦
-            let s : get_or boundaries i 0 + get_or base i 0 ≤ get_or boundaries (i + 1) 0 = laid_from.steps i late l in
-            let p : get_or whole i 0 ≡ get_or boundaries i 0 = after i late in
-            let q : get_or whole (i + 1) 0 ≡ get_or boundaries (i + 1) 0 = after (i + 1) (omega arith) in
-            omega arith
-      ]
-
       apart-back : (d : Demand) → (a ≤ d.start) × (get_or boundaries d.start 0 + d.minimum ≤ get_or boundaries (end_of d) 0) → get_or whole d.start 0 + d.minimum ≤ get_or whole (end_of d) 0
       apart-back d known =
           let starts : a ≤ d.start = known.0 in

@@ -20,10 +20,19 @@ use Rattle.papergrid_tracks.proofs.Theorems.{Fits-sizes_of, AreSizesTooLarge-siz
 pub begun-by : {line : ℕ → Bool} {n : ℕ} {kept : Demands} {lines seen : List Bool} {base : List ℕ} → seen ≡ lines → IsBegun line n kept lines base → IsBegun line n kept seen base
 begun-by {line} {n} {kept} {base = base} same begun = subst (λ lines. IsBegun line n kept lines base) (sym same) begun
 
+module _ {line : ℕ → Bool} {n : ℕ} {kept : Demands} {demands : List Demand} (is_kept : AreGathered n kept demands) {lines : List Bool} {base : List ℕ} (begun : IsBegun line n kept lines base) where
+  -- all cells lie in the table
+  pub table-all : All (IsInTable n) demands
+  table-all = table_demands n kept demands is_kept begun.inside
+
+  -- the base is the minimum sizes of the tracks alone
+  pub base-all : base ≡ base_sizes n demands
+  base-all = base-kept n kept demands is_kept begun.small base begun.many begun.base_at
+
 -- the cells of longer ranges that are kept lie in the table, in whatever order
 pub table-begun : {line : ℕ → Bool} {n : ℕ} {kept : Demands} {demands : List Demand} → AreGathered n kept demands → {lines : List Bool} {base : List ℕ} → IsBegun line n kept lines base →
     All (IsInTable n) kept.rest.items
-table-begun {n = n} {kept} {demands} is_kept begun = table-kept n kept demands is_kept begun.small (table_demands n kept demands is_kept begun.inside)
+table-begun {n = n} {kept} {demands} is_kept begun = table-kept n kept demands is_kept begun.small (table-all is_kept begun)
 
 pub table-sorted : {line : ℕ → Bool} {n : ℕ} {kept : Demands} {demands : List Demand} → AreGathered n kept demands → {lines : List Bool} {base : List ℕ} → IsBegun line n kept lines base →
     (cells : List Demand) → cells ≡ by_span n kept.rest.items → All (IsInTable (length base)) cells
@@ -35,12 +44,6 @@ module _ {line : ℕ → Bool} {n : ℕ} {kept : Demands} {demands : List Demand
   abbrev drawn : ℕ → Bool
   drawn = line_at lines
 
-  table : All (IsInTable n) demands
-  table = table_demands n kept demands is_kept begun.inside
-
-  base_is : base ≡ base_sizes n demands
-  base_is = base-kept n kept demands is_kept begun.small base begun.many begun.base_at
-
   cells_are : cells ≡ by_span n demands
   cells_are = sorted ∙ by_span-kept n kept demands is_kept begun.small
 
@@ -50,12 +53,12 @@ module _ {line : ℕ → Bool} {n : ℕ} {kept : Demands} {demands : List Demand
   module _ (sizes : List ℕ) (after : sizes ≡ fold (grown_sizes drawn) base cells) where
     pub shares-grown : sizes ≡ sizes_of problem
     shares-grown =
-        after ∙ ap₂ (λ (xs : List ℕ) (ds : List Demand). fold (grown_sizes drawn) xs ds) base_is cells_are ∙ sizes-drawn drawn line n begun.drawn demands table
+        after ∙ ap₂ (λ (xs : List ℕ) (ds : List Demand). fold (grown_sizes drawn) xs ds) (base-all is_kept begun) cells_are ∙ sizes-drawn drawn line n begun.drawn demands (table-all is_kept begun)
 
     -- the total with all lines, as it was found
     pub total-grown : sum sizes + all_lines drawn (length sizes) ≡ total_of problem sizes
     total-grown =
-        let one_each : length sizes ≡ n = ap length shares-grown ∙ (Fits-sizes_of problem table).one_each in
+        let one_each : length sizes ≡ n = ap length shares-grown ∙ (Fits-sizes_of problem (table-all is_kept begun)).one_each in
         let lines : all_lines drawn (length sizes) ≡ all_lines line n = ap (all_lines drawn) one_each ∙ lines-drawn drawn line n begun.drawn in
         ap (λ k. sum sizes + k) lines
 
@@ -63,14 +66,14 @@ module _ {line : ℕ → Bool} {n : ℕ} {kept : Demands} {demands : List Demand
     total-shares = sym (total-grown ∙ ap (total_of problem) shares-grown)
 
     pub AreSizesTooLarge-grown : (sum sizes + all_lines drawn (length sizes) < 18446744073709551616 → ⊥) → AreSizesTooLarge problem
-    AreSizesTooLarge-grown past = AreSizesTooLarge-sizes_of problem table (λ small. past (subst (λ k. k < 18446744073709551616) total-shares small))
+    AreSizesTooLarge-grown past = AreSizesTooLarge-sizes_of problem (table-all is_kept begun) (λ small. past (subst (λ k. k < 18446744073709551616) total-shares small))
 
     pub AreGrown-grown : (growing_cells : List Demand) → growing_cells ≡ growing_demands drawn base cells →
         sum sizes + all_lines drawn (length sizes) < 18446744073709551616 → AreGrown problem sizes cells growing_cells
     AreGrown-grown growing_cells grew small = record {
-      table = table;
+      table = table-all is_kept begun;
       shares = shares-grown;
       in_order = cells_are;
-      grew = grew ∙ ap₂ (λ (xs : List ℕ) (ds : List Demand). growing_demands drawn xs ds) base_is cells_are ∙ growing_cells-drawn drawn line n begun.drawn demands table;
+      grew = grew ∙ ap₂ (λ (xs : List ℕ) (ds : List Demand). growing_demands drawn xs ds) (base-all is_kept begun) cells_are ∙ growing_cells-drawn drawn line n begun.drawn demands (table-all is_kept begun);
       total = subst (λ k. k < 18446744073709551616) (sym total-shares) small;
     }

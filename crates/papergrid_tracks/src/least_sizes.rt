@@ -7,7 +7,7 @@ ghost use Rattle.papergrid_tracks.specs.Sizes.{grown_sizes, by_span};
 ghost use Rattle.papergrid_values.specs.Lines.{all_lines};
 ghost use Rattle.papergrid_tracks.specs.TrackBoundaries.{net_minimum, boundaries_of, sizes_between};
 ghost use Rattle.papergrid_tracks.specs.ForProofs.Laid.{AreLaid, with_net_minimum};
-ghost use Rattle.papergrid_tracks.specs.ForProofs.Limits.{AreLimits, Refuses};
+ghost use Rattle.papergrid_tracks.specs.ForProofs.Limits.{AreAllTooLarge, AreLimitsOf, Refuses};
 
 use crate::demand::Demand;
 use crate::error::LayoutResult;
@@ -28,19 +28,15 @@ pub fn make_least(
 ) -> LayoutResult<Limits>
     requires lines { length lines.now ≡ length sizes.old + 1 }
     requires table { All (IsInTable (length sizes.old)) cells.now }
-    ensures limits { let line = line_at lines.now in
-        IfOk result (AreLimits line sizes.old
-        (map (with_net_minimum (net_minimum line)) cells.now)) }
+    ensures limits { IfOk result (AreLimitsOf (line_at lines.now) sizes.old cells.now) }
     ensures sizes { let line = line_at lines.now in
         let count = length sizes.old in
         let shares = fold (grown_sizes line) sizes.old (by_span count cells.now) in
         IfOk result (λ limits. sizes.new ≡
         sizes_between count (λ i. min (boundaries_of shares i)
         (slice_index limits.highest_position.items i))) }
-    ensures refused { let line = line_at lines.now in
-        IfErr result (Refuses ((boundary : ℕ → ℕ) →
-        AreLaid sizes.old (map (with_net_minimum (net_minimum line)) cells.now) boundary →
-        2 ^ 64 ≤ boundary (length sizes.old) + all_lines line (length sizes.old))) }
+    ensures refused { IfErr result
+        (Refuses (AreAllTooLarge (line_at lines.now) sizes.old cells.now)) }
 {
     let limits = limits_of(alloc, lines, sizes, cells)?;
     let longer = by_span(alloc, sizes.len(), cells)?;

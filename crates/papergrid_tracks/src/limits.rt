@@ -7,7 +7,7 @@ ghost use Rattle.papergrid_tracks.specs.Ranges.{IsInTable, end_of};
 ghost use Rattle.papergrid_values.specs.Lines.{all_lines};
 ghost use Rattle.papergrid_tracks.specs.TrackBoundaries.{net_minimum};
 ghost use Rattle.papergrid_tracks.specs.ForProofs.Laid.{AreLaid, AreLaterFirst, with_net_minimum};
-ghost use Rattle.papergrid_tracks.specs.ForProofs.Limits.{AreLimits, AreLowestBoundaries, AreHighestBoundaries, Refuses};
+ghost use Rattle.papergrid_tracks.specs.ForProofs.Limits.{AreAllTooLarge, AreLimitsOf, AreLowestBoundaries, AreHighestBoundaries, Refuses};
 
 use crate::boundaries::{lay_highest, lay_lowest};
 use crate::cells::{all_asking, sort_by_end, sort_later_first};
@@ -92,13 +92,9 @@ pub fn limits_of(
 ) -> LayoutResult<Limits>
     requires lines { length lines.now ≡ length base.now + 1 }
     requires table { All (IsInTable (length base.now)) cells.now }
-    ensures limits { let line = line_at lines.now in
-        IfOk result (AreLimits line base.now
-        (map (with_net_minimum (net_minimum line)) cells.now)) }
-    ensures refused { let line = line_at lines.now in
-        IfErr result (Refuses ((boundary : ℕ → ℕ) →
-        AreLaid base.now (map (with_net_minimum (net_minimum line)) cells.now) boundary →
-        2 ^ 64 ≤ boundary (length base.now) + all_lines line (length base.now))) }
+    ensures limits { IfOk result (AreLimitsOf (line_at lines.now) base.now cells.now) }
+    ensures refused { IfErr result
+        (Refuses (AreAllTooLarge (line_at lines.now) base.now cells.now)) }
 {
     let mut ordered = all_asking(alloc, lines, cells)?;
     sort_by_end(&mut ordered)?;

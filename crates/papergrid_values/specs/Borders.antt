@@ -10,19 +10,6 @@ border_parts b =
     b.top ∷ b.bottom ∷ b.left ∷ b.right
     ∷ b.left_top_corner ∷ b.left_bottom_corner ∷ b.right_top_corner ∷ b.right_bottom_corner ∷ []
 
--- the border with the same part everywhere
-abbrev pub border_with : {T : Type 0} → Option T → Border T
-border_with part = record {
-  top = part;
-  bottom = part;
-  left = part;
-  right = part;
-  left_top_corner = part;
-  left_bottom_corner = part;
-  right_top_corner = part;
-  right_bottom_corner = part;
-}
-
 -- the fifteen parts of a frame, in the order of the fields
 abbrev pub frame_parts : {T : Type 0} → Borders T → List (Option T)
 frame_parts f =

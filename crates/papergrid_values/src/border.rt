@@ -1,10 +1,10 @@
 //! The border of a cell. Source: `config/border.rs`.
 
 ghost use Rattle.std.specs.Prelude.{◌≡◌, ◌↔◌, ◌∷◌, [], Some, None, map, option_copied, true, IsTrue, IsOk, IfOk};
-ghost use Rattle.std.specs.List.{AllPairs, AllZip};
+ghost use Rattle.std.specs.List.{AllByRecursion, AllPairs, AllZip};
 ghost use Rattle.std.specs.Option.{option_eq};
 ghost use Rattle.papergrid_values.specs.Parts.{any_set, none_set, EachSet, PartsGive};
-ghost use Rattle.papergrid_values.specs.Borders.{border_parts, border_with};
+ghost use Rattle.papergrid_values.specs.Borders.{border_parts};
 
 use crate::parts::{clone_part, cloned_part};
 use std::alloc::AllocError;
@@ -94,7 +94,7 @@ impl<T> Border<T> {
 
     /// The border with no part set.
     pub fn empty() -> Border<T>
-        ensures { result ≡ border_with None }
+        ensures { AllByRecursion (λ part. part ≡ None) (border_parts result) }
     {
         Border::new(None, None, None, None, None, None, None, None)
     }
@@ -103,7 +103,7 @@ impl<T> Border<T> {
     pub fn filled(value: T) -> Border<T>
     where
         T: Copy,
-        ensures { result ≡ border_with (Some value) }
+        ensures { AllByRecursion (λ part. part ≡ Some value) (border_parts result) }
     {
         Border::full(value, value, value, value, value, value, value, value)
     }

@@ -27,7 +27,7 @@ ghost use Rattle.papergrid_values.specs.declared.indent.Indent.{Indent};
 ghost use Rattle.papergrid_values.specs.declared.formatting.Formatting.{Formatting};
 ghost use Rattle.papergrid_values.specs.declared.offset.Offset.{Offset};
 ghost use Rattle.papergrid_values.specs.declared.per_direction.PerDirection.{PerDirection};
-ghost use Rattle.papergrid_values.specs.Borders.{border_parts, border_with, frame_parts, frame_with};
+ghost use Rattle.papergrid_values.specs.Borders.{border_parts, frame_parts, frame_with};
 ghost use Rattle.papergrid_values.specs.Entities.{positions};
 ghost use Rattle.papergrid_values.specs.Lines.{horizontal_parts, horizontal_with, vertical_parts, vertical_with};
 ghost use Rattle.papergrid_values.specs.Colors.{texts_of, texts_cmp};
@@ -209,7 +209,7 @@ pub fn plain_defaults<T: Default>()
     ensures sides { (x : Sides T) →
         ⟦<Sides<T> as Default>⟧.is_default x → All T.is_default (sides_parts x) }
     ensures borders { (x : Border T) →
-        ⟦<Border<T> as Default>⟧.is_default x → x ≡ border_with None }
+        ⟦<Border<T> as Default>⟧.is_default x → All (λ part. part ≡ None) (border_parts x) }
     ensures frames { (x : Borders T) →
         ⟦<Borders<T> as Default>⟧.is_default x → x ≡ frame_with None }
     ensures horizontal_lines { (x : HorizontalLine T) →

@@ -5,6 +5,7 @@ use Rattle.std.specs.declared.result.Result.{Result}
 use Rattle.std.specs.Result.{OnOk}
 use Rattle.papergrid_values.specs.declared.direction.Direction.{Direction}
 use Rattle.papergrid_values.specs.declared.direction.Direction.TheVariants.{Columns, Rows}
+use Rattle.papergrid_values.specs.declared.entity.Entity.{Entity}
 use Rattle.papergrid_values.specs.declared.position.Position.{Position}
 use Rattle.papergrid_maps.specs.declared.anchors.Anchor.{Anchor}
 use Rattle.papergrid_maps.specs.declared.view.Paddings.{Paddings}
@@ -15,7 +16,10 @@ use Rattle.papergrid_tracks.specs.declared.demands.Demands.{Demands}
 use Rattle.papergrid_tracks.specs.ForProofs.Demands.{AddsDemands}
 use Rattle.papergrid_tracks.specs.Ranges.{demand_of}
 use Rattle.papergrid_walk.specs.Cells.{demand_by, demands_by, side}
-use Rattle.papergrid_walk.specs.ForProofs.Shown.{anchor_in}
+use Rattle.papergrid_walk.specs.declared.demand_visitors.View.{View}
+use Rattle.papergrid_walk.specs.ForProofs.Paddings.{Knows}
+use Rattle.papergrid_walk.specs.ForProofs.Pairs.{StandsAt}
+use Rattle.papergrid_walk.specs.ForProofs.Shown.{Shows, anchor_in}
 use Rattle.papergrid_walk.specs.ForProofs.Visits.{adds_none}
 
 pub on_ok : {A E P : Type 0} (r : Result A E) → P → OnOk r P
@@ -25,6 +29,12 @@ on_ok (Err e) p = tt
 pub on_ok_both : {A E P : Type 0} (Q : Type 0) (r : Result A E) → P → OnOk r Q → OnOk r (P × Q)
 on_ok_both Q (Ok u) p q = (p, q)
 on_ok_both Q (Err e) p q = tt
+
+-- where the settings are as they were, a walk stands by its own as by the old ones
+pub stands-kept : {S : Type 0} (grid : S → Grid) (set : S → Entity → Option Paddings) (old new : View S) (row column : ℕ) → new.settings ≡ old.settings
+    → Shows (grid old.settings.now) new.sweep row column → Knows (grid old.settings.now) (set old.settings.now) new.known → StandsAt grid set new row column
+stands-kept grid set old new row column same shows knows =
+    subst (λ settings. Shows (grid settings.now) new.sweep row column × Knows (grid settings.now) (set settings.now) new.known) (sym same) (shows, knows)
 
 -- what is found where a test says so
 pub shown_at : {X : Type 0} {found : Option X} (shows : Bool) (seen x : X) → found ≡ (if shows then Some seen else None) → found ≡ Some x → (shows ≡ true) × (x ≡ seen)

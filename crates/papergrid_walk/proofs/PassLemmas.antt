@@ -1,5 +1,5 @@
 -- One more anchor is passed.
-use Rattle.std.proofs.Common.{arith, ◌≡◌, ℕ, ◌/◌, ◌<◌, ◌≤◌, ◌&&◌, if◌then◌else◌}
+use Rattle.std.proofs.Common.{arith, ℕ, ◌/◌, ◌≤◌}
 use Rattle.papergrid_walk.specs.declared.max_tree.MaxTree.{MaxTree}
 use Rattle.papergrid_walk.specs.declared.max_tree.MaxTree.TheVariants.{Top, Level'}
 use Rattle.papergrid_walk.specs.ForProofs.MaxTree.{HasLevels}

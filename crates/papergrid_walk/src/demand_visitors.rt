@@ -9,7 +9,7 @@ ghost use Rattle.papergrid_tracks.specs.Ranges.{demand_of};
 ghost use Rattle.papergrid_maps.specs.Grids.{Grid};
 ghost use Rattle.papergrid_walk.specs.ForProofs.Paddings.{Knows};
 ghost use Rattle.papergrid_maps.specs.Paddings.{paddings_at};
-ghost use Rattle.papergrid_walk.specs.ForProofs.Pairs.{AddsBoth, AreBothGathered, StandsAt};
+ghost use Rattle.papergrid_walk.specs.ForProofs.Pairs.{AddsBoth, AreBothGathered, IsReadyAt, KeepsCell, StandsAt};
 ghost use Rattle.papergrid_walk.specs.ForProofs.Shown.{Shows, anchor_in};
 ghost use Rattle.papergrid_walk.specs.ForProofs.Visits.{adds_more, adds_none, shows_turn};
 ghost use Rattle.std.proofs.Common.{◌∙◌, ap, refl};
@@ -142,7 +142,7 @@ pub struct DemandVisitor<'a, M, S> {
 }
 
 impl<'a, M: Measure<C>, C, S: ConfigView> Visitor<C> for DemandVisitor<'a, M, S> {
-    ghost ready = { λ v row column. StandsAt (S.grid v.view.settings.now) (S.set_for v.view.settings.now) v.view.sweep v.view.known row column };
+    ghost ready = { λ v row column. StandsAt S.grid S.set_for v.view row column };
 
     ghost consumed = { λ v w cells. (w.view.settings ≡ v.view.settings) × (w.direction ≡ v.direction)
         × AddsDemands v.kept w.kept (demands_by v.direction (S.grid v.view.settings.now) M.measured cells) };
@@ -189,18 +189,9 @@ impl<'a, M, S: ConfigView> BothDemandVisitor<'a, M, S> {
     fn keep_cell<C>(&mut self, position: Position, cell: &C) -> Result<(), AllocError>
     where
         M: Measure<C>,
-        requires ready { let view = self.old.view in
-            StandsAt (S.grid view.settings.now) (S.set_for view.settings.now)
-            view.sweep view.known position.row position.col }
-        requires row_in { position.row < 2 ^ 64 - 1 }
-        requires col_in { position.col < 2 ^ 64 - 1 }
-        ensures adds { let grid = S.grid self.old.view.settings.now in
-            let cells = (position, cell.now) ∷ [] in
-            OnOk result (AddsBoth grid M.measured self.old.both self.new.both cells) }
-        ensures ready { let settings = self.old.view.settings.now in
-            OnOk result (StandsAt (S.grid settings) (S.set_for settings)
-            self.new.view.sweep self.new.view.known position.row (position.col + 1)) }
-        ensures settings { OnOk result (self.new.view.settings ≡ self.old.view.settings) }
+        requires { IsReadyAt S.grid S.set_for self.old.view position }
+        ensures { OnOk result
+            (KeepsCell S.grid S.set_for M.measured self.old self.new position cell.now) }
     {
         let Some((anchor, paddings)) = self.view.read(position)? else {
             return Ok(());
@@ -227,25 +218,16 @@ impl<'a, M, S: ConfigView> BothDemandVisitor<'a, M, S> {
     fn keep_among_spans<C>(&mut self, position: Position, cell: &C) -> Result<(), AllocError>
     where
         M: Measure<C>,
-        requires ready { let view = self.old.view in
-            StandsAt (S.grid view.settings.now) (S.set_for view.settings.now)
-            view.sweep view.known position.row position.col }
-        requires row_in { position.row < 2 ^ 64 - 1 }
-        requires col_in { position.col < 2 ^ 64 - 1 }
-        ensures adds { let grid = S.grid self.old.view.settings.now in
-            let cells = (position, cell.now) ∷ [] in
-            OnOk result (AddsBoth grid M.measured self.old.both self.new.both cells) }
-        ensures ready { let settings = self.old.view.settings.now in
-            OnOk result (StandsAt (S.grid settings) (S.set_for settings)
-            self.new.view.sweep self.new.view.known position.row (position.col + 1)) }
-        ensures settings { OnOk result (self.new.view.settings ≡ self.old.view.settings) }
+        requires { IsReadyAt S.grid S.set_for self.old.view position }
+        ensures { OnOk result
+            (KeepsCell S.grid S.set_for M.measured self.old self.new position cell.now) }
     {
         self.keep_cell(position, cell)
     }
 }
 
 impl<'a, M: Measure<C>, C, S: ConfigView> Visitor<C> for BothDemandVisitor<'a, M, S> {
-    ghost ready = { λ v row column. StandsAt (S.grid v.view.settings.now) (S.set_for v.view.settings.now) v.view.sweep v.view.known row column };
+    ghost ready = { λ v row column. StandsAt S.grid S.set_for v.view row column };
 
     ghost consumed = { λ v w cells. (w.view.settings ≡ v.view.settings) × AddsBoth (S.grid v.view.settings.now) M.measured v.both w.both cells };
 

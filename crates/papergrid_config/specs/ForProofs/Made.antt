@@ -9,8 +9,9 @@ use Rattle.papergrid_tables.specs.ForProofs.Made.{borders_made}
 use Rattle.papergrid_maps.specs.ForProofs.Made.{spans_made}
 use Rattle.papergrid_maps.specs.ForProofs.MapSearch.{effective_value}
 use Rattle.papergrid_maps.specs.Grids.{Grid, size_after, size_before}
-use Rattle.papergrid_maps.specs.Spans.{Spans, is_visible, span_along}
-use Rattle.papergrid_config.specs.Grids.{line_along}
+use Rattle.papergrid_maps.specs.Spans.{Spans, span_along}
+use Rattle.papergrid_maps.specs.Visible.{is_visible}
+use Rattle.papergrid_tables.specs.LineTests.{line_along}
 use Rattle.papergrid_config.specs.Parts.{character_calls, padding_calls, span_calls}
 use Rattle.papergrid_config.specs.declared.setting.Setting.{Setting}
 

@@ -1,16 +1,10 @@
 -- What a ruler asks of its dimension, and what it reads of it and of its settings.
 use Rattle.std.specs.Prelude.{ℕ, Bool}
 use Rattle.papergrid_values.specs.declared.direction.Direction.{Direction}
-use Rattle.papergrid_values.specs.declared.direction.Direction.TheVariants.{Columns, Rows}
 use Rattle.papergrid_maps.specs.Grids.{Grid}
 use Rattle.papergrid_layout.specs.Places.{size_along, total}
-use Rattle.papergrid_layout.specs.Tables.{HasSizes}
+use Rattle.papergrid_layout.specs.Tables.{HasSizes, has_along}
 use Rattle.papergrid_layout.specs.declared.ruler.Ruler.{Ruler}
-
--- there is a width for the column, or a height for the row
-abbrev pub has_along : (ℕ → Type 0) → (ℕ → Type 0) → Direction → ℕ → Type 0
-has_along columns rows Columns = columns
-has_along columns rows Rows = rows
 
 -- the dimension has a size for the track
 abbrev pub has_track : {D S : Type 0} → (D → ℕ → Type 0) → (D → ℕ → Type 0) → Ruler D S → ℕ → Type 0

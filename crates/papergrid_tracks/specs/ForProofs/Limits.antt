@@ -1,11 +1,12 @@
 -- The lowest and the highest positions of the boundaries as lists.
-use Rattle.std.specs.Prelude.{◌≡◌, ℕ, ◌+◌, ◌^◌, ◌<◌, ◌≤◌, Bool, List, length, slice_index, ⊤}
+use Rattle.std.specs.Prelude.{◌≡◌, ℕ, ◌+◌, ◌^◌, ◌<◌, ◌≤◌, Bool, List, length, map, slice_index, ⊤}
 use Rattle.papergrid_values.specs.Lines.{all_lines}
 use Rattle.papergrid_tracks.specs.declared.demand.Demand.{Demand}
 use Rattle.papergrid_tracks.specs.declared.error.LayoutError.{LayoutError}
 use Rattle.papergrid_tracks.specs.declared.error.LayoutError.TheVariants.{OutOfTable, TooLarge, Memory}
 use Rattle.papergrid_tracks.specs.declared.limits.Limits.{Limits}
-use Rattle.papergrid_tracks.specs.ForProofs.Laid.{AreLaid}
+use Rattle.papergrid_tracks.specs.TrackBoundaries.{net_minimum}
+use Rattle.papergrid_tracks.specs.ForProofs.Laid.{AreLaid, with_net_minimum}
 
 -- too large, of which this is known; an allocation may fail in place of any answer
 abbrev pub Refuses : Type 0 → LayoutError → Type 0
@@ -34,3 +35,16 @@ pub record AreLimits (line : ℕ → Bool) (base : List ℕ) (cells : List Deman
   pub total : limits.total ≡
       slice_index limits.lowest_position.items (length base) + all_lines line (length base)
   pub fits : limits.total < 2 ^ 64
+
+module _ (line : ℕ → Bool) (base : List ℕ) (cells : List Demand) where
+  -- what the cells ask for, less the lines inside of their ranges
+  abbrev pub asked : List Demand
+  asked = map (with_net_minimum (net_minimum line)) cells
+
+  -- the limits of what they ask for so
+  abbrev pub AreLimitsOf : Limits → Type 0
+  AreLimitsOf limits = AreLimits line base asked limits
+
+  -- all boundaries that are laid for it come, with all lines, to more than the greatest `usize`
+  abbrev pub AreAllTooLarge : Type 0
+  AreAllTooLarge = (boundary : ℕ → ℕ) → AreLaid base asked boundary → 2 ^ 64 ≤ boundary (length base) + all_lines line (length base)

@@ -8,6 +8,7 @@ use Rattle.papergrid_values.specs.contracts.alignment.AlignmentVerticalPartialEq
 use Rattle.papergrid_values.specs.contracts.ansi_buf.ANSIBufPartialEq.TheImpl as color
 use Rattle.papergrid_values.specs.contracts.indent.IndentPartialEq.TheImpl as indent
 use Rattle.papergrid_values.specs.contracts.offset.OffsetPartialEq.TheImpl as offset
+use Rattle.papergrid_tables.proofs.BorderAgree.{and_four}
 use Rattle.papergrid_maps.proofs.StoredAgree.{spans_agree}
 use Rattle.papergrid_config.proofs.EqualLemmas.{optional_eq, same_color, same_horizontal, same_indent, same_offset, same_optional, same_sides, same_vertical, sides_eq}
 use Rattle.papergrid_config.proofs.SameLemmas.{equal_at, equal_borders, equal_maps, equal_overrides, equal_spans, exact_bool, exact_borders, exact_color, exact_horizontal, exact_indent, exact_map, exact_offset, exact_optional, exact_overrides, exact_sides, exact_vertical, spans_are}
@@ -16,53 +17,41 @@ use Rattle.papergrid_config.proofs.laws.equal_configurations.Goals as goal
 pub returns : goal.returns
 returns c x y = (
   λ h.
-      let p0 = and_parts _ _ h in
-      let p1 = and_parts _ _ p0.1 in
-      let p2 = and_parts _ _ p1.1 in
-      let p3 = and_parts _ _ p2.1 in
-      let p4 = and_parts _ _ p3.1 in
-      let p5 = and_parts _ _ p4.1 in
-      let p6 = and_parts _ _ p5.1 in
-      let p7 = and_parts _ _ p6.1 in
-      let p8 = and_parts _ _ p7.1 in
-      let p9 = and_parts _ _ p8.1 in
-      let p10 = and_parts _ _ p9.1 in
-      let p11 = and_parts _ _ p10.1 in
-      let p12 = and_parts _ _ p11.1 in
-      let p13 = and_parts _ _ p12.1 in
-      let p14 = and_parts _ _ p13.1 in
-      let p15 = and_parts _ _ p14.1 in
-      let p16 = and_parts _ _ p15.1 in
-      let p17 = and_parts _ _ p16.1 in
-      let p18 = and_parts _ _ p17.1 in
+      let first = and_four h in
+      let second = and_four first.3 in
+      let third = and_four second.3 in
+      let fourth = and_four third.3 in
+      let fifth = and_four fourth.3 in
+      let sixth = and_four fifth.3 in
+      let last = and_parts _ _ sixth.3 in
       record {
         but_overrides = λ i. record {
           alloc = x.alloc;
-          padding = exact_map (sides_eq indent.ghosts.eq) (exact_sides indent.ghosts.eq exact_indent) x.padding y.padding p0.0 i;
-          padding_color = exact_map (sides_eq optional_eq) (exact_sides optional_eq exact_optional) x.padding_color y.padding_color p1.0 i;
-          trim_horizontal = exact_map beq exact_bool x.trim_horizontal y.trim_horizontal p2.0 i;
-          trim_vertical = exact_map beq exact_bool x.trim_vertical y.trim_vertical p3.0 i;
-          line_alignment = exact_map beq exact_bool x.line_alignment y.line_alignment p4.0 i;
-          alignment_horizontal = exact_map alignment_horizontal.ghosts.eq exact_horizontal x.alignment_horizontal y.alignment_horizontal p5.0 i;
-          alignment_vertical = exact_map alignment_vertical.ghosts.eq exact_vertical x.alignment_vertical y.alignment_vertical p6.0 i;
-          justification = exact_map nat_eq eqb-true x.justification y.justification p7.0 i;
-          justification_color = exact_map optional_eq exact_optional x.justification_color y.justification_color p8.0 i;
-          characters = exact_borders nat_eq eqb-true x.characters y.characters p9.0 i;
-          colors = exact_borders color.ghosts.eq exact_color x.colors y.colors p10.0 i;
+          padding = exact_map (sides_eq indent.ghosts.eq) (exact_sides indent.ghosts.eq exact_indent) x.padding y.padding first.0 i;
+          padding_color = exact_map (sides_eq optional_eq) (exact_sides optional_eq exact_optional) x.padding_color y.padding_color first.1 i;
+          trim_horizontal = exact_map beq exact_bool x.trim_horizontal y.trim_horizontal first.2 i;
+          trim_vertical = exact_map beq exact_bool x.trim_vertical y.trim_vertical second.0 i;
+          line_alignment = exact_map beq exact_bool x.line_alignment y.line_alignment second.1 i;
+          alignment_horizontal = exact_map alignment_horizontal.ghosts.eq exact_horizontal x.alignment_horizontal y.alignment_horizontal second.2 i;
+          alignment_vertical = exact_map alignment_vertical.ghosts.eq exact_vertical x.alignment_vertical y.alignment_vertical third.0 i;
+          justification = exact_map nat_eq eqb-true x.justification y.justification third.1 i;
+          justification_color = exact_map optional_eq exact_optional x.justification_color y.justification_color third.2 i;
+          characters = exact_borders nat_eq eqb-true x.characters y.characters fourth.0 i;
+          colors = exact_borders color.ghosts.eq exact_color x.colors y.colors fourth.1 i;
           horizontal_chars = x.horizontal_chars;
           vertical_chars = x.vertical_chars;
           horizontal_colors = x.horizontal_colors;
           vertical_colors = x.vertical_colors;
-          spans = spans_are x.spans y.spans ((spans_agree x.spans y.spans).0 p15.0) i;
-          margin = (exact_sides indent.ghosts.eq exact_indent) x.margin y.margin p16.0 i;
-          margin_color = (exact_sides optional_eq exact_optional) x.margin_color y.margin_color p17.0 i;
-          margin_offset = (exact_sides offset.ghosts.eq exact_offset) x.margin_offset y.margin_offset p18.0 i;
-          missing = eqb-true x.missing y.missing p18.1 i;
+          spans = spans_are x.spans y.spans ((spans_agree x.spans y.spans).0 sixth.0) i;
+          margin = (exact_sides indent.ghosts.eq exact_indent) x.margin y.margin sixth.1 i;
+          margin_color = (exact_sides optional_eq exact_optional) x.margin_color y.margin_color sixth.2 i;
+          margin_offset = (exact_sides offset.ghosts.eq exact_offset) x.margin_offset y.margin_offset last.0 i;
+          missing = eqb-true x.missing y.missing last.1 i;
         };
-        horizontal_chars = exact_overrides nat_eq eqb-true x.horizontal_chars y.horizontal_chars p11.0;
-        vertical_chars = exact_overrides nat_eq eqb-true x.vertical_chars y.vertical_chars p12.0;
-        horizontal_colors = exact_overrides color.ghosts.eq exact_color x.horizontal_colors y.horizontal_colors p13.0;
-        vertical_colors = exact_overrides color.ghosts.eq exact_color x.vertical_colors y.vertical_colors p14.0;
+        horizontal_chars = exact_overrides nat_eq eqb-true x.horizontal_chars y.horizontal_chars fourth.2;
+        vertical_chars = exact_overrides nat_eq eqb-true x.vertical_chars y.vertical_chars fifth.0;
+        horizontal_colors = exact_overrides color.ghosts.eq exact_color x.horizontal_colors y.horizontal_colors fifth.1;
+        vertical_colors = exact_overrides color.ghosts.eq exact_color x.vertical_colors y.vertical_colors fifth.2;
       },
   λ same.
       and_from _ _ (equal_maps (sides_eq indent.ghosts.eq) (same_sides indent.ghosts.eq same_indent) (ap (λ c. c.padding) same.but_overrides))

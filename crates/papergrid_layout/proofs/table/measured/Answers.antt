@@ -3,7 +3,7 @@ use Rattle.papergrid_values.specs.declared.direction.Direction.{Direction}
 use Rattle.papergrid_values.specs.declared.direction.Direction.TheVariants.{Columns, Rows}
 use Rattle.papergrid_walk.specs.Cells.{count_along}
 use Rattle.papergrid_layout.specs.Places.{sized_table, total_along}
-use Rattle.papergrid_layout.specs.ForProofs.Rulers.{has_along}
+use Rattle.papergrid_layout.specs.Tables.{has_along}
 use Rattle.papergrid_layout.proofs.PlaceSums.{too-large}
 use Rattle.papergrid_layout.proofs.table.measured.Goals as goal
 

@@ -1,9 +1,10 @@
-use Rattle.std.proofs.Common.{◌∙◌, ap, sym, subst, ℕ, ◌+◌, List, ◌++◌, ◌∷◌, [], Some}
+use Rattle.std.proofs.Common.{◌∙◌, ap, sym, subst, ℕ, ◌+◌, List, ◌++◌, ◌∷◌, [], None, Some}
 use Rattle.papergrid_values.specs.Positions.{position_of}
 use Rattle.papergrid_values.specs.declared.border.Border.{Border}
 use Rattle.papergrid_config.specs.declared.setting.Setting.{Setting}
 use Rattle.papergrid_config.specs.declared.setting.Setting.TheVariants.{SetBorder}
 use Rattle.papergrid_draw.specs.ForProofs.Crossings.{AreFittedBefore}
+use Rattle.papergrid_draw.proofs.CornerLemmas.{same_border}
 use Rattle.papergrid_draw.proofs.CrossingLemmas.{fitted-pass, fitted-push}
 use Rattle.papergrid_draw.proofs.crossings.Line.fit_crossing.Goals as goal
 
@@ -22,4 +23,4 @@ returns c =
     let fitted = fitted-push line.config.now line.shape c.args.junctions.now line.row c.args.column character before
     c.requires.line.within c.requires.inside c.requires.room.0 c.requires.room.1 c.requires.fitted c.in-Some.ensures in
     subst (AreFittedBefore line.config.now line.shape c.args.junctions.now line.row (c.args.column + 1))
-    (sym (c.in_ok-push.ensures.items ∙ ap set c.empty.ensures)) fitted
+    (sym (c.in_ok-push.ensures.items ∙ ap set (same_border None c.empty.result c.empty.ensures))) fitted

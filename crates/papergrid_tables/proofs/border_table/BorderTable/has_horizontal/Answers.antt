@@ -1,6 +1,10 @@
 use Rattle.std.proofs.Common.{rules}
-use Rattle.papergrid_tables.proofs.LineTested.{horizontal_test}
+use Rattle.papergrid_values.specs.declared.direction.Direction.TheVariants.{Rows}
+use Rattle.papergrid_tables.specs.ForProofs.LineTested.{is_test}
 use Rattle.papergrid_tables.proofs.border_table.BorderTable.has_horizontal.Goals as goal
 
 pub returns-else-is_drawn-clause-test : goal.returns-else-is_drawn-clause-test
-returns-else-is_drawn-clause-test g c = horizontal_test c.args.self.now c.args.row c.args.count _ (search rules)
+returns-else-is_drawn-clause-test g c = is_test c.args.self.now Rows c.args.count c.args.row _ (search rules)
+
+pub returns-then-is_drawn-clause-test : goal.returns-then-is_drawn-clause-test
+returns-then-is_drawn-clause-test g c = is_test c.args.self.now Rows c.args.count c.args.row _ (search rules)

@@ -1,8 +1,7 @@
-use Rattle.std.proofs.Common.{◌+◌, refl, subst, sym}
+use Rattle.std.proofs.Common.{refl}
 use Rattle.std.specs.Result.{OnOk}
-use Rattle.papergrid_walk.specs.ForProofs.Pairs.{StandsAt}
 use Rattle.papergrid_values.proofs.ResultLemmas.{on_ok_map}
-use Rattle.papergrid_walk.proofs.Kept.{hidden_at, keeps_none, keeps_one, on_ok, shown_at, spans_from_one}
+use Rattle.papergrid_walk.proofs.Kept.{hidden_at, keeps_none, keeps_one, on_ok, shown_at, spans_from_one, stands-kept}
 use Rattle.papergrid_walk.proofs.demand_visitors.DemandVisitorVisitor.visit.Goals as goal
 
 pub read-requires : goal.read-requires
@@ -23,9 +22,7 @@ returns-in-Some-clause-consumed g c =
 pub returns-in-Some-clause-ready : goal.returns-in-Some-clause-ready
 returns-in-Some-clause-ready g c =
     on_ok c.keep_along.result
-    (subst
-    (λ settings. StandsAt (g.S.ConfigView.grid settings.now) (g.S.ConfigView.set_for settings.now) c.read.new.self.sweep c.read.new.self.known c.args.position.row (c.args.position.col + 1))
-    (sym c.in_ok-anchor.ensures.settings) (c.in_ok-anchor.ensures.later, c.in_ok-anchor.ensures.knows))
+    (stands-kept g.S.ConfigView.grid g.S.ConfigView.set_for c.args.self.now.view c.read.new.self _ _ c.in_ok-anchor.ensures.settings c.in_ok-anchor.ensures.later c.in_ok-anchor.ensures.knows)
 
 pub returns-in-None-clause-consumed : goal.returns-in-None-clause-consumed
 returns-in-None-clause-consumed g c =
@@ -35,6 +32,4 @@ returns-in-None-clause-consumed g c =
 
 pub returns-in-None-clause-ready : goal.returns-in-None-clause-ready
 returns-in-None-clause-ready g c =
-    subst
-    (λ settings. StandsAt (g.S.ConfigView.grid settings.now) (g.S.ConfigView.set_for settings.now) c.read.new.self.sweep c.read.new.self.known c.args.position.row (c.args.position.col + 1))
-    (sym c.in_ok-anchor.ensures.settings) (c.in_ok-anchor.ensures.later, c.in_ok-anchor.ensures.knows)
+    stands-kept g.S.ConfigView.grid g.S.ConfigView.set_for c.args.self.now.view c.read.new.self _ _ c.in_ok-anchor.ensures.settings c.in_ok-anchor.ensures.later c.in_ok-anchor.ensures.knows

@@ -9,7 +9,8 @@ use Rattle.papergrid_values.specs.declared.direction.Direction.{Direction}
 use Rattle.papergrid_values.specs.declared.direction.Direction.TheVariants.{Columns, Rows}
 use Rattle.papergrid_values.specs.declared.position.Position.{Position}
 use Rattle.papergrid_values.specs.MapKeys.{position_cmp, position_eq}
-use Rattle.papergrid_maps.specs.Spans.{HasSpan, Spans, span_along, is_hidden_by, is_in_rectangle, is_visible, IsVisible, IsInRectangle}
+use Rattle.papergrid_maps.specs.Spans.{HasSpan, Spans, span_along, is_in_rectangle, IsVisible, IsInRectangle}
+use Rattle.papergrid_maps.specs.ForProofs.VisibleSearch.{is_hidden_by, is_seen}
 use Rattle.papergrid_values.proofs.AnyLemmas.{any_index}
 use Rattle.papergrid_values.proofs.KeyLemmas.{exact_position_eq, position_ties, position_equiv}
 
@@ -93,16 +94,23 @@ hides spans p anchor apart within =
     (stored_or_not (get spans.rows anchor)))
     (stored_or_not (get spans.columns anchor))
 
-pub visible_test : (spans : Spans) (p : Position) → IsTrue (is_visible spans p) ↔ IsVisible (span_along spans) p
-visible_test spans p = (
-  (λ h anchor apart within. not_true _ h (hides spans p anchor apart within)),
-  (λ visible.
-      let anchors = keys spans.columns ++ keys spans.rows in
-      elim (is_hidden_by (span_along spans) anchors p) as (λ b. is_hidden_by (span_along spans) anchors p ≡ b → not b ≡ true) [
+module _ (spans : Spans) (p : Position) where
+  abbrev stored_anchors : List Position
+  stored_anchors = keys spans.columns ++ keys spans.rows
+
+  pub seen_visible : IsTrue (is_seen spans p) → IsVisible (span_along spans) p
+  seen_visible h anchor apart within = not_true _ h (hides spans p anchor apart within)
+
+  pub visible_seen : IsVisible (span_along spans) p → IsTrue (is_seen spans p)
+  visible_seen visible =
+      elim (is_hidden_by (span_along spans) stored_anchors p) as (λ b. is_hidden_by (span_along spans) stored_anchors p ≡ b → not b ≡ true) [
         | true ↦ λ hidden.
-            let position = any_index (λ q. not (position_eq q p) && is_in_rectangle (span_along spans) q p) anchors hidden in
+            let position = any_index (λ q. not (position_eq q p) && is_in_rectangle (span_along spans) q p) stored_anchors hidden in
             let parts = and_parts (not (position_eq position.1 p)) _ position.3 in
             absurd (visible position.1 (apart_from_test position.1 p parts.0) (in_rectangle (span_along spans) position.1 p parts.1))
-        | false ↦ λ seen. refl
-      ] refl),
-)
+        | false ↦ λ none. refl
+      ] refl
+
+  -- whether the position is visible, and that it is exactly there
+  pub visible_test : (test : Bool) × (IsTrue test ↔ IsVisible (span_along spans) p)
+  visible_test = (is_seen spans p, (seen_visible, visible_seen))
