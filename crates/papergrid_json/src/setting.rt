@@ -1,12 +1,11 @@
 //! The settings of a document.
 
 ghost use Rattle.std.specs.Option.{option_zip};
-ghost use Rattle.std.specs.Prelude.{◌≡◌, ◌≢◌};
+ghost use Rattle.std.specs.Prelude.{◌≡◌};
 ghost use Rattle.papergrid_json.specs.ForProofs.Reading.{IsReadingOr, IsReadingOrNone, IsUnlike, found};
 ghost use Rattle.papergrid_json.specs.Documents.{IsUnknownAt};
 ghost use Rattle.papergrid_json.specs.Spots.{item_at};
 ghost use Rattle.papergrid_json.specs.Values.{offset_at, position_at};
-ghost use Rattle.papergrid_json.specs.declared.error.Fault.TheVariants.{Memory};
 ghost use Rattle.papergrid_json.specs.Settings.{bare_setting, cell_setting, character_setting, entity_setting, line_setting, setting_at, setting_by_word, table_setting};
 
 use crate::error::Fault;
