@@ -2,7 +2,7 @@
 use Rattle.std.proofs.Common.{◌≡◌, ℕ, List, map, sym, subst}
 use Rattle.std.specs.Prelude.{Err, IfOk, IsErrAnd, MatchResult, Ok, Result}
 use Rattle.papergrid_values.specs.declared.direction.Direction.{Direction}
-use Rattle.papergrid_tracks.specs.ForProofs.BySizing.{AreLeastSizes}
+use Rattle.papergrid_tracks.proofs.BySizing.{AreLeastSizes}
 use Rattle.papergrid_tracks.specs.declared.error.LayoutError.{LayoutError}
 use Rattle.papergrid_tracks.specs.declared.error.LayoutError.TheVariants.{OutOfTable, TooLarge, Memory}
 use Rattle.papergrid_tracks.specs.Sizings.{Answers, AreTooLargeBy, IsRefused}

@@ -6,8 +6,9 @@ pub mod Closures
 pub mod EqualLemmas
 pub mod FoundLemmas
 pub mod GridLemmas
-pub mod ViewLemmas
+pub mod Made
 pub mod Reached
 pub mod SameLemmas
 pub mod SettingGridLemmas
 pub mod Told
+pub mod ViewLemmas

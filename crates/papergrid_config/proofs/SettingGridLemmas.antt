@@ -15,13 +15,13 @@ use Rattle.papergrid_maps.specs.StoredMap.{stored_value}
 use Rattle.papergrid_maps.specs.Grids.{Grid, size_after, size_before}
 use Rattle.papergrid_maps.specs.Spans as spans
 use Rattle.papergrid_maps.specs.Spans.{IsEffectiveSpan, IsVisible, RemoveSpans, SetSpan, SpanCall, Spans, from_two, is_same_direction, span_along}
-use Rattle.papergrid_maps.specs.ForProofs.SpanSearch.{effective_span, span_from}
+use Rattle.papergrid_maps.proofs.SpanSearch.{effective_span, span_from}
 use Rattle.papergrid_maps.proofs.EffectiveCallLemmas.{IsEffective-only, effective_value-IsEffective}
 use Rattle.papergrid_maps.proofs.EffectiveSpanLemmas.{IsEffectiveSpan-only, effective_span-IsEffectiveSpan, spans_of_history}
 use Rattle.papergrid_maps.proofs.MadeTables.{spans_made_history, span_history}
 use Rattle.papergrid_maps.specs.ForProofs.SpanVisible.{visible_test}
 use Rattle.papergrid_maps.proofs.StoredMapLemmas.{stored_effective}
-use Rattle.papergrid_config.specs.ForProofs.Made.{characters_of, grid_of, padding_of, spans_of}
+use Rattle.papergrid_config.proofs.Made.{characters_of, grid_of, padding_of, spans_of}
 use Rattle.papergrid_values.specs.Compact.{all_sides, spaces}
 use Rattle.papergrid_maps.specs.EffectiveCall.{IsEffective}
 use Rattle.papergrid_config.specs.Parts.{character_calls, padding_calls, span_calls}

@@ -23,8 +23,12 @@ use Rattle.papergrid_text.specs.Separators.{is_separator}
 use Rattle.papergrid_text.proofs.SeparatorLemmas.{separates}
 use Rattle.papergrid_text.proofs.TrimLemmas.{read-shifted}
 use Rattle.papergrid_text.proofs.Widths.{str_width-nil}
-use Rattle.papergrid_csv.specs.ForProofs.Cuts.{StandsApart, is_apart, is_narrow_letter, is_wide_letter}
+use Rattle.papergrid_csv.specs.ForProofs.Cuts.{is_apart, is_narrow_letter, is_wide_letter}
 use Rattle.papergrid_text.proofs.RunLemmas.{read_append}
+
+-- the widths of a text up to this character and of what stands after it add up
+abbrev pub StandsApart : ℕ → Type 0
+StandsApart c = (front back : List ℕ) → str_width false (front ++ c ∷ back) ≡ str_width false (front ++ c ∷ []) + str_width false back
 
 ellipsis-read : step false 0x2026 (0, plain) ≡ (1, plain)
 unfolding unicode_width

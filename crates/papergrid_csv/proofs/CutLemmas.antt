@@ -22,7 +22,8 @@ use Rattle.papergrid_text.proofs.Splits.{is_split}
 use Rattle.papergrid_text.proofs.ReadBack.{chars-back}
 use Rattle.papergrid_text.proofs.Widths.{str_width-nil}
 use Rattle.papergrid_csv.specs.Cutting.{IsCut, IsCutLine, IsShortened, shortened}
-use Rattle.papergrid_csv.specs.ForProofs.Cuts.{AddsLine, AllNarrow, HasLinesWithin, IsCutAt, StandsApart}
+use Rattle.papergrid_csv.specs.ForProofs.Cuts.{AddsLine, AllNarrow, HasLinesWithin, IsCutAt}
+use Rattle.papergrid_csv.proofs.ApartLemmas.{StandsApart}
 use Rattle.papergrid_csv.proofs.ApartLemmas.{ellipsis-adds}
 
 -- ---- what is shown of a line

@@ -3,7 +3,7 @@ use Rattle.std.proofs.Common.{◌≡◌, ap, refl, subst, true}
 use Rattle.std.specs.Prelude.{◌↔◌, nat_eq}
 use Rattle.std.specs.Cmp.{bool_eq_equiv, booleans_Decides, nat_eq_equiv}
 use Rattle.std.specs.Option.{option_eq}
-use Rattle.std.proofs.lemmas.Bool.{and_from, and_parts, eqb-true, false≢true}
+use Rattle.std.proofs.lemmas.Bool.{and_from, and_parts, eqb-true}
 use Rattle.papergrid_values.proofs.EqualLemmas.{option_same}
 use Rattle.papergrid_config.proofs.SameLemmas.{exact_option}
 use Rattle.papergrid_csv.specs.declared.reading.Format.{Format}

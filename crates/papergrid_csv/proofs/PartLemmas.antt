@@ -11,13 +11,13 @@ use Rattle.papergrid_values.specs.declared.entity.Entity.TheVariants.{Global}
 use Rattle.papergrid_values.specs.declared.horizontal_line.HorizontalLine.{HorizontalLine}
 use Rattle.papergrid_values.specs.declared.position.Position.{Position}
 use Rattle.papergrid_maps.specs.declared.entity_map.MapCall.TheVariants.{Insert}
-use Rattle.papergrid_config.specs.ForProofs.Made.{characters_of, padding_of}
+use Rattle.papergrid_config.proofs.Made.{characters_of, padding_of}
 use Rattle.papergrid_config.specs.Parts.{character_calls, margins, padding_calls, span_calls}
 use Rattle.papergrid_config.specs.declared.setting.Setting.{Setting}
 use Rattle.papergrid_config.specs.declared.setting.Setting.TheVariants.{InsertHorizontalLine, SetAlignmentHorizontal, SetAlignmentVertical, SetBorder, SetBorders, SetPadding}
 use Rattle.papergrid_config.specs.declared.spanned.SpannedConfig.{SpannedConfig}
 use Rattle.papergrid_tables.specs.BorderCalls as lines
-use Rattle.papergrid_tables.specs.ForProofs.Made.{borders_made}
+use Rattle.papergrid_tables.proofs.Made.{borders_made}
 use Rattle.papergrid_draw.specs.Crossings.{corner_border, crossing_setting}
 use Rattle.papergrid_draw.specs.declared.crossings.Junctions.{Junctions}
 use Rattle.papergrid_csv.specs.Pictures.{AreFitted}

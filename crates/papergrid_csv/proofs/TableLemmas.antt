@@ -18,7 +18,7 @@ use Rattle.papergrid_maps.proofs.MadeTables.{span_history}
 use Rattle.papergrid_config.specs.Parts.{span_calls}
 use Rattle.papergrid_config.specs.declared.setting.Setting.{Setting}
 use Rattle.papergrid_config.specs.declared.spanned.SpannedConfig.{SpannedConfig}
-use Rattle.papergrid_maps.specs.ForProofs.Made.{spans_made}
+use Rattle.papergrid_maps.proofs.Made.{spans_made}
 use Rattle.papergrid_maps.specs.Spans.{span_along}
 use Rattle.papergrid_maps.specs.Visible.{is_visible}
 use Rattle.papergrid_maps.specs.ForProofs.SpanVisible.{visible_test}

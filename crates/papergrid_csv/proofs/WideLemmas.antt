@@ -16,7 +16,6 @@ use Rattle.papergrid_config.specs.declared.spanned.SpannedConfig.{SpannedConfig}
 use Rattle.papergrid_layout.specs.Laws.{IsCellAt}
 use Rattle.papergrid_layout.specs.Places.{total_along}
 use Rattle.papergrid_tracks.specs.declared.sizing.Sizing.{Sizing}
-use Rattle.papergrid_tracks.specs.declared.sizing.Sizing.TheVariants.{ByShares, Least}
 use Rattle.papergrid_draw.specs.Drawings.{Drawing, layout_of}
 use Rattle.papergrid_draw.specs.Drawn.{drawn_lines, draws_vertical}
 use Rattle.papergrid_draw.specs.Laws.{pieces_of}

@@ -1,5 +1,5 @@
 -- Cuts that are tried, the widest first.
-use Rattle.std.proofs.Common.{◌≡◌, ◌≤◌, ◌<◌, ◌+◌, ◌-◌, ◌∙◌, ℕ, Bool, List, [], Option, None, Some, Result, Ok, Err, ap, arith, inl, inr, length, refl, subst, sym}
+use Rattle.std.proofs.Common.{◌≡◌, ◌≤◌, ◌<◌, ◌+◌, ◌-◌, ◌∙◌, ℕ, ◌⊎◌, Bool, List, [], Option, None, Some, Result, Ok, Err, ap, arith, inl, inr, length, refl, subst, sym}
 use Rattle.std.proofs.lemmas.Bool.{cases_lt}
 use Rattle.papergrid_config.specs.declared.setting.Setting.{Setting}
 use Rattle.papergrid_config.specs.declared.spanned.SpannedConfig.{SpannedConfig}
@@ -12,7 +12,7 @@ use Rattle.papergrid_csv.specs.Rows.{AreRowsOf, IsUnread}
 use Rattle.papergrid_csv.specs.Shown.{AreCut}
 use Rattle.papergrid_csv.specs.Within.{IsGreatestCut, IsLastCut, IsRunWithin, IsWiderWith, cut_request}
 use Rattle.papergrid_csv.specs.ForProofs.Drawn.{Configured, Crossed, Faulted, Free, IsConfigRun, IsRowsRun, IsSettingsRun, Kept, Sized, end_unread}
-use Rattle.papergrid_csv.specs.ForProofs.Within.{IsFirstCut, IsTried}
+use Rattle.papergrid_csv.specs.ForProofs.Within.{IsFirstCut}
 use Rattle.papergrid_csv.specs.declared.reading.RowsError.{RowsError}
 use Rattle.papergrid_csv.specs.declared.reading.RowsError.TheVariants as rows_errors
 use Rattle.papergrid_csv.specs.declared.request.Request.{Request}
@@ -20,6 +20,21 @@ use Rattle.papergrid_csv.specs.declared.run.CsvEnd.{CsvEnd}
 use Rattle.papergrid_csv.specs.declared.run.CsvEnd.TheVariants.{Drawn, NotText, Ragged, TooWide, Unclosed}
 use Rattle.papergrid_csv.proofs.DrawLemmas.{run-no_memory, run-silent}
 use Rattle.papergrid_csv.proofs.RunLemmas.{csv-run-of}
+
+-- no cut was tried, a run ended so with fields as they are, and so many cuts are left: by none that is greater the table is
+-- less wide
+pub record IsUntried (asked : Request) (width : ℕ) (input : List ℕ) (end : CsvEnd) (left : ℕ) : Type 0 where
+  pub within : left ≤ width
+  pub some : (width ≡ 0) ⊎ (1 ≤ left)
+  pub wider : (found : ℕ) → end ≡ TooWide found → (cut : ℕ) → left < cut → cut ≤ width → IsWiderWith asked width input (Some cut)
+
+module _ {W : Type 0} (contents : W → Option (List ℕ)) (has_failed has_stalled : W → Bool) where
+  -- a request has the cut that was tried last, by which a run ended so; none that is greater will do, and so many are left
+  pub record IsTried (asked : Request) (width : ℕ) (input : List ℕ) (old new : W) (request : Request) (end : CsvEnd) (left : ℕ) : Type 0 where
+    pub is : request ≡ cut_request asked width request.cut
+    pub greatest : IsGreatestCut asked width input request.cut
+    pub run : WritesCsv contents has_failed has_stalled (IsCsvRun request input) old new (Ok end)
+    pub counted : ((request.cut ≡ None) × IsUntried asked width input end left) ⊎ ((request.cut ≡ Some (left + 1)) × (left + 1 ≤ width))
 
 -- ---- a cut that changes no field
 

@@ -15,7 +15,7 @@ use Rattle.papergrid_draw.specs.Pieces.{Piece}
 use Rattle.papergrid_draw.specs.Separated.{AreApartAfter, HasSeparators, IsHonest}
 use Rattle.papergrid_draw.specs.Tiles.{IsTiled}
 use Rattle.papergrid_draw.specs.ForProofs.Pages.{row_start, text_start}
-use Rattle.papergrid_draw.specs.ForProofs.Ranges.{AreRanges, first_of, many_of, rule_first, rule_many, text_first, text_many}
+use Rattle.papergrid_draw.proofs.Ranges.{AreRanges, first_of, many_of, rule_first, rule_many, text_first, text_many}
 use Rattle.papergrid_draw.proofs.ColumnLemmas.{cell-of, column-begun, column-inside, text-ranges, vertical-there}
 use Rattle.papergrid_draw.proofs.LineLemmas.{range-more}
 use Rattle.papergrid_draw.proofs.OverLemmas.{all-pieces, crossing-covered, crossing-free, crossing-from, crossing-there, crossing_pieces, over-begun, over-free, over-inside, over-known, over_pieces, parts, rule-ranges, rule_pieces}

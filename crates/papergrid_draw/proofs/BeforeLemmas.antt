@@ -16,7 +16,7 @@ use Rattle.papergrid_draw.specs.Pieces.{Piece}
 use Rattle.papergrid_draw.specs.Separated.{AreApartBefore, HasSeparators, IsHonest}
 use Rattle.papergrid_draw.specs.Tiles.{IsTiled}
 use Rattle.papergrid_draw.specs.ForProofs.Pages.{row_start, text_start}
-use Rattle.papergrid_draw.specs.ForProofs.Ranges.{first_of, rule_first}
+use Rattle.papergrid_draw.proofs.Ranges.{first_of, rule_first}
 use Rattle.papergrid_draw.proofs.ColumnLemmas.{cell-of, column-begun, column-inside, vertical-there}
 use Rattle.papergrid_draw.proofs.OverLemmas.{all-pieces, crossing-free, crossing-there, crossing_pieces, over-begun, over-free, over-inside, over-known, over_pieces, parts, rule_pieces}
 use Rattle.papergrid_draw.proofs.SeparateLemmas.{content-begins, content-separate, crossing-fills, segment-fills, vertical-fills}

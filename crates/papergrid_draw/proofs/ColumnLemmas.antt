@@ -17,8 +17,8 @@ use Rattle.papergrid_draw.specs.Laws.{StandAt, terminal_columns}
 use Rattle.papergrid_draw.specs.Pieces.{Piece}
 use Rattle.papergrid_draw.specs.Tiles.{IsTiled}
 use Rattle.papergrid_draw.specs.ForProofs.Pages.{text_start}
-use Rattle.papergrid_draw.specs.ForProofs.Ranges.{AreRanges, FillRanges, first_of, many_of, text_first, text_many}
-use Rattle.papergrid_draw.specs.ForProofs.Tiles.{HasOwner}
+use Rattle.papergrid_draw.proofs.Ranges.{AreRanges, FillRanges, first_of, many_of, text_first, text_many}
+use Rattle.papergrid_draw.proofs.TileLemmas.{HasOwner}
 use Rattle.papergrid_draw.proofs.ContentLemmas.{columns-append, columns-content, has-room}
 use Rattle.papergrid_draw.proofs.RangeLemmas.{columns-before, cut-at}
 use Rattle.papergrid_draw.proofs.TileLemmas.{has-owner, owns-owner}

@@ -1,8 +1,6 @@
 -- What settings of single crossings leave of a configuration.
 use Rattle.std.proofs.Common.{◌≡◌, ◌∙◌, ap, sym, subst, refl, inl, inr, ℕ, ◌⊎◌, Bool, true, false, cond, List, [], ◌∷◌, ◌++◌, map, reverse, Option, Some, None, append_assoc, append-nil, arith}
 use Rattle.std.specs.Prelude.{◌↔◌, All, IsSome, IsTrue, if◌then◌else◌}
-use Rattle.std.specs.Cmp.{nat_cmp_total}
-use Rattle.std.specs.FinMap.{nat_cmp-IsAntisymmetric, same_map}
 use Rattle.std.specs.List.{AllByRecursion, flat_map}
 use Rattle.std.specs.Option.{option_or}
 use Rattle.std.proofs.lemmas.Grind.{flat_map-append}
@@ -20,7 +18,7 @@ use Rattle.papergrid_values.specs.Positions.{along}
 use Rattle.papergrid_values.specs.declared.direction.Direction.{Direction}
 use Rattle.papergrid_values.specs.declared.direction.Direction.TheVariants.{Columns, Rows}
 use Rattle.papergrid_values.specs.declared.position.Position.{Position}
-use Rattle.papergrid_values.proofs.KeyLemmas.{exact_position_eq, exact_positions, position_total}
+use Rattle.papergrid_values.proofs.KeyLemmas.{exact_position_eq}
 use Rattle.papergrid_values.proofs.ResultLemmas.{same_answer}
 use Rattle.papergrid_tables.specs.BorderCalls.{BorderCall, InsertBorder, below, right_of}
 use Rattle.papergrid_tables.specs.BorderParts.{BorderParts, StandsOn, found_intersection, parts_after_call, parts_from, HasLine}
@@ -29,8 +27,8 @@ use Rattle.papergrid_tables.specs.Overrides as overrides
 use Rattle.papergrid_tables.specs.StoredBorders.{parts_of_borders}
 use Rattle.papergrid_tables.specs.ForProofs.LineTested.{line_test}
 use Rattle.papergrid_tables.proofs.MadeTables.{border_history}
-use Rattle.papergrid_tables.specs.ForProofs.Made.{borders_made}
-use Rattle.papergrid_maps.specs.ForProofs.Made.{spans_made}
+use Rattle.papergrid_tables.proofs.Made.{borders_made}
+use Rattle.papergrid_maps.proofs.Made.{spans_made}
 use Rattle.papergrid_maps.specs.StoredMap as maps
 use Rattle.papergrid_maps.specs.StoredMap.{Stored}
 use Rattle.papergrid_maps.specs.declared.entity_map.MapCall.{MapCall}

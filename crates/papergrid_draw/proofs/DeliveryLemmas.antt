@@ -8,7 +8,8 @@ use Rattle.papergrid_draw.specs.Drawings.{Drawing}
 use Rattle.papergrid_draw.specs.Faults.{IsDrawFault, IsDrawable}
 use Rattle.papergrid_draw.specs.declared.error.DrawError.{DrawError}
 use Rattle.papergrid_draw.specs.declared.error.DrawError.TheVariants.{Memory, NoRoom, NotTiled, OutOfTable, TooLarge, Write}
-use Rattle.papergrid_draw.specs.ForProofs.Sheets.{IsCutShort, IsDrawRefusal, Writes}
+use Rattle.papergrid_draw.specs.ForProofs.Sheets.{IsCutShort, Writes}
+use Rattle.papergrid_draw.proofs.RefusalLemmas.{IsDrawRefusal}
 
 -- by the relations of texts that are taken and of one that breaks off
 module _ {W : Type 0} (takes breaks : W → List ℕ → W → Type 0) where

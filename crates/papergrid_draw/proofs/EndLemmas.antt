@@ -15,7 +15,11 @@ use Rattle.papergrid_walk.specs.ForProofs.Swept.{Walk}
 use Rattle.papergrid_layout.specs.Places.{Overflows, TableView}
 use Rattle.papergrid_draw.specs.Tiles.{AreWithin, IsTileFault, EndsOutside}
 use Rattle.papergrid_draw.specs.declared.error.DrawError.TheVariants.{OutOfTable}
-use Rattle.papergrid_draw.specs.ForProofs.Tiles.{EndInTable}
+
+-- a walk over the anchors has come to number i, and passed no visible cell of the table that ends outside
+pub record EndInTable (table : TableView) (anchors : List Anchor) (i : ℕ) (walk : Walk) : Type 0 where
+  pub shows : (k : ℕ) (a : Anchor) → i ≤ k → slice_get anchors k ≡ Some a → Shows table.grid walk a.position.row a.position.col
+  pub none : (k : ℕ) (a : Anchor) → k < i → slice_get anchors k ≡ Some a → EndsOutside table a.position → ⊥
 
 -- ---- the sweep
 

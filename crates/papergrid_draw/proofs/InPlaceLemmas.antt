@@ -16,7 +16,7 @@ use Rattle.papergrid_draw.specs.Faults.{AllHaveRoom}
 use Rattle.papergrid_draw.specs.Laws.{AreDrawnAt, StandAt, terminal_columns, pieces_of, text_piece}
 use Rattle.papergrid_draw.specs.Tiles.{IsTiled, Owns}
 use Rattle.papergrid_draw.specs.ForProofs.Pages.{row_start, text_start}
-use Rattle.papergrid_draw.specs.ForProofs.Ranges.{first_of, text_first}
+use Rattle.papergrid_draw.proofs.Ranges.{first_of, text_first}
 use Rattle.papergrid_draw.proofs.ColumnLemmas.{cell-in-text_line, line-in-text_line, owner-beside}
 use Rattle.papergrid_draw.proofs.ContentLemmas.{above-within, columns-content, content-line, has-room, line-fits, line_at, stands-within, text-stands}
 use Rattle.papergrid_draw.proofs.DrawnLemmas.{IsLineInside, IsOfRow, row-or-line, rule_line-at, text_line-at}

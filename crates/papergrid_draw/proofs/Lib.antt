@@ -33,6 +33,7 @@ pub mod PlainLemmas
 pub mod PlainRuleLemmas
 pub mod PrinterLemmas
 pub mod RangeLemmas
+pub mod Ranges
 pub mod RefusalLemmas
 pub mod RoomLemmas
 pub mod RuleLemmas

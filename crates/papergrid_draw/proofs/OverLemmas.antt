@@ -22,8 +22,8 @@ use Rattle.papergrid_draw.specs.Laws.{StandAt, terminal_columns, stretch_pieces}
 use Rattle.papergrid_draw.specs.Pieces.{Piece}
 use Rattle.papergrid_draw.specs.Tiles.{IsTiled}
 use Rattle.papergrid_draw.specs.ForProofs.Pages.{row_start}
-use Rattle.papergrid_draw.specs.ForProofs.Ranges.{AreRanges, FillRanges, first_of, many_of, rule_first, rule_many}
-use Rattle.papergrid_draw.specs.ForProofs.Tiles.{HasOwner}
+use Rattle.papergrid_draw.proofs.Ranges.{AreRanges, FillRanges, first_of, many_of, rule_first, rule_many}
+use Rattle.papergrid_draw.proofs.TileLemmas.{HasOwner}
 use Rattle.papergrid_draw.proofs.ColumnLemmas.{cell-of, owner-beside}
 use Rattle.papergrid_draw.proofs.ContentLemmas.{columns-append, columns-cons, columns-content, has-room}
 use Rattle.papergrid_draw.proofs.PageLemmas.{crossing-test, over-test}

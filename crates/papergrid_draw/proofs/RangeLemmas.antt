@@ -8,7 +8,7 @@ use Rattle.papergrid_layout.specs.Places.{extent, line_offset, offset}
 use Rattle.papergrid_layout.proofs.PlaceSums.{line-before, offset-after, offset-next}
 use Rattle.papergrid_draw.specs.Laws.{terminal_columns}
 use Rattle.papergrid_draw.specs.Pieces.{Piece}
-use Rattle.papergrid_draw.specs.ForProofs.Ranges.{AreRanges, FillRanges}
+use Rattle.papergrid_draw.proofs.Ranges.{AreRanges, FillRanges}
 use Rattle.papergrid_draw.proofs.ContentLemmas.{columns-append}
 use Rattle.papergrid_draw.proofs.LineLemmas.{range-more}
 

@@ -8,9 +8,14 @@ use Rattle.papergrid_draw.specs.Drawings.{Drawing, layout_of}
 use Rattle.papergrid_draw.specs.Faults.{AllHaveRoom, IsDrawable, whole_height}
 use Rattle.papergrid_draw.specs.Margins.{whole_width}
 use Rattle.papergrid_draw.specs.Tiles.{IsTileFault, IsTiled}
-use Rattle.papergrid_draw.specs.ForProofs.Sheets.{IsDrawRefusal, IsRoomFault}
+use Rattle.papergrid_draw.specs.ForProofs.Sheets.{IsRoomFault}
 use Rattle.papergrid_draw.specs.declared.error.DrawError.{DrawError}
 use Rattle.papergrid_draw.specs.declared.error.DrawError.TheVariants.{Memory, NoRoom, NotTiled, OutOfTable, TooLarge, Write}
+use Rattle.papergrid_draw.specs.Faults.{IsDrawFault}
+
+-- why it is not drawn, before anything is written
+abbrev pub IsDrawRefusal : Drawing → DrawError → Type 0
+IsDrawRefusal d e = IsDrawFault d e × (e ≢ Write)
 
 pub tile-refusal : (d : Drawing) (e : DrawError) → IsTileFault (layout_of d) e → IsDrawRefusal d e
 tile-refusal d (OutOfTable p) is = (is, λ same. cc)

@@ -27,7 +27,7 @@ use Rattle.papergrid_tables.specs.Overrides.{OffsetCall, found_override, is_same
 use Rattle.papergrid_tables.specs.StoredBorders.{parts_of_borders}
 use Rattle.papergrid_values.specs.Compact.{all_sides, spaces}
 use Rattle.papergrid_maps.specs.Keys.{entity_eq}
-use Rattle.papergrid_maps.specs.ForProofs.MapSearch.{cell_override_value, global_value, standing_value}
+use Rattle.papergrid_maps.proofs.MapSearch.{cell_override_value, global_value, standing_value}
 use Rattle.papergrid_maps.proofs.EffectiveCallLemmas.{search_of_history}
 use Rattle.papergrid_maps.specs.StoredMap.{HasMapHistory, Stored, stored_value}
 use Rattle.papergrid_maps.specs.declared.entity_map.MapCall.{MapCall}

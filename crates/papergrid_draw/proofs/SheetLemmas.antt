@@ -10,6 +10,13 @@ use Rattle.std.proofs.lemmas.Result.{err_from_is_err_and}
 use Rattle.papergrid_draw.specs.declared.error.DrawError.{DrawError}
 use Rattle.papergrid_draw.specs.declared.error.DrawError.TheVariants.{Memory, NoRoom, NotTiled, OutOfTable, TooLarge, Write}
 use Rattle.papergrid_draw.specs.ForProofs.Sheets.{IsCutShort, Writes, WritesLines, begun_after, lines_after, separator}
+use Rattle.std.specs.Prelude.{Option}
+use Rattle.papergrid_values.specs.declared.position.Position.{Position}
+use Rattle.papergrid_draw.specs.ForProofs.Pages.{Texts}
+
+-- what is told of cells
+abbrev pub told_texts : {C : Type 0} → (C → Position → List (List ℕ × ℕ)) → (C → Position → Option (List ℕ × List ℕ)) → C → Texts
+told_texts lines color cells = record { lines = lines cells; color = color cells }
 
 -- ---- the bytes of lines
 

@@ -19,7 +19,15 @@ use Rattle.papergrid_maps.specs.declared.anchors.Anchor.{Anchor}
 use Rattle.papergrid_maps.proofs.HiddenLemmas.{position-same}
 use Rattle.papergrid_layout.specs.Places.{IsVisibleCell, Overflows, TableView}
 use Rattle.papergrid_draw.specs.Tiles.{IsTablePosition, IsTiled, Owns, owner, owns}
-use Rattle.papergrid_draw.specs.ForProofs.Tiles.{HasOwner}
+
+-- the cell at p is the owner of q, and no other visible cell covers that; p is a cell of the table, and ends in it
+pub record HasOwner (table : TableView) (q p : Position) : Type 0 where
+  pub is : owner table q ≡ Some p
+  pub owns : Owns table p q
+  pub alone : (other : Position) → Owns table other q → other ≡ p
+  pub in_table : IsTablePosition table p
+  pub across : p.col + table.grid.span Columns p ≤ table.shape.1
+  pub down : p.row + table.grid.span Rows p ≤ table.shape.0
 
 -- ---- the first position that passes a test
 

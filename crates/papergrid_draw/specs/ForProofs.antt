@@ -8,7 +8,6 @@ pub mod Looks
 pub mod Pages
 pub mod Pens
 pub mod Plain
-pub mod Ranges
 pub mod Sheets
 pub mod Sinks
 pub mod Tiles

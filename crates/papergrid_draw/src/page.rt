@@ -1,6 +1,6 @@
 //! A table while it is drawn: what stands in each column of a row.
 
-ghost use Rattle.std.specs.Prelude.{◌≡◌, ◌↔◌, ◌<◌, ◌≤◌, ◌+◌, ◌-◌, ◌++◌, IsTrue, None, Some, IfOk, OnOk, if◌then◌else◌, ◌&&◌, length, nat_lt, option_copied, option_map, slice_index, string_bytes, true, unwrap_or};
+ghost use Rattle.std.specs.Prelude.{◌≡◌, ◌↔◌, ◌<◌, ◌≤◌, ◌+◌, ◌-◌, ◌++◌, IsTrue, None, Some, IfOk, OnOk, if◌then◌else◌, ◌&&◌, length, nat_lt, option_copied, option_map, string_bytes, true, unwrap_or};
 ghost use Rattle.papergrid_values.specs.Colors.{texts_of};
 ghost use Rattle.papergrid_values.specs.declared.direction.Direction.TheVariants.{Columns, Rows};
 ghost use Rattle.papergrid_values.specs.Positions.{position_of};

@@ -1,6 +1,6 @@
 //! The lines of a table as they are written: margins, horizontal lines, and the text lines of a row.
 
-ghost use Rattle.std.specs.Prelude.{◌≡◌, ◌+◌, ◌-◌, ◌^◌, ◌<◌, ◌∷◌, ◌++◌, [], OnOk, length, option_copied, replicate, slice_index, string_bytes, true};
+ghost use Rattle.std.specs.Prelude.{◌≡◌, ◌+◌, ◌-◌, ◌^◌, ◌<◌, ◌∷◌, ◌++◌, [], OnOk, option_copied, replicate, slice_index, string_bytes, true};
 ghost use Rattle.papergrid_draw.specs.Drawn.{TextLine, rule_lines, text_line};
 ghost use Rattle.papergrid_draw.specs.Margins.{margin_line};
 ghost use Rattle.papergrid_draw.specs.ForProofs.Pages.{Texts, drawing_of};

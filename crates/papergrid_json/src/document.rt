@@ -1,12 +1,12 @@
 //! Documents, read.
 
-ghost use Rattle.std.specs.Prelude.{◌≡◌, IfOk, Some, true, List, codes, option_and_then, length, map, option_map, string_bytes};
+ghost use Rattle.std.specs.Prelude.{◌≡◌, IfOk, Some, true, codes, option_and_then, map, option_map, string_bytes};
 ghost use Rattle.serde_json.specs.Find.{as_array, get};
 ghost use Rattle.serde_json.specs.View.{items_view, view};
 ghost use Rattle.papergrid_json.specs.Spots.{count, each, list_at, optional, text_at};
 ghost use Rattle.papergrid_config.specs.Applied.{is_in_range};
 ghost use Rattle.papergrid_json.specs.ForProofs.Reading.{AreItems, AreOwnSizes, IsDraft, IsFinished, IsJsonRead, IsReading, IsReadingAs, IsReadingAsOr, IsReadingOr, IsTableRead, IsUnexpected, found};
-ghost use Rattle.papergrid_json.specs.Documents.{AreColors, AreInRange, IsDocumentRead, IsFirstUnknown, IsSettingRead, IsUnknownAt, accepted_at, are_enough, colored_at, draft_in, longest_row, items_at, optional_list_at, own_sizes_at, row_texts_in, own_sizes, texts_of_rows};
+ghost use Rattle.papergrid_json.specs.Documents.{AreColors, AreInRange, IsDocumentRead, IsFirstUnknown, IsSettingRead, IsUnknownAt, accepted_at, colored_at, draft_in, longest_row, items_at, optional_list_at, own_sizes_at, row_texts_in, own_sizes, texts_of_rows};
 
 use crate::error::{DocumentError, Fault, told};
 use crate::path::DocumentPath;

@@ -15,7 +15,7 @@ use Rattle.papergrid_values.specs.MapKeys.{position_eq}
 use Rattle.papergrid_tables.specs.BorderParts.{HasLine, parts_from}
 use Rattle.papergrid_maps.specs.EffectiveCall.{IsEffective}
 use Rattle.papergrid_maps.specs.Spans.{IsEffectiveSpan, RemoveSpans, SetSpan, SpanCall, decides_span, is_same_direction}
-use Rattle.papergrid_maps.specs.ForProofs.SpanSearch.{effective_span, span_from}
+use Rattle.papergrid_maps.proofs.SpanSearch.{effective_span, span_from}
 use Rattle.papergrid_maps.proofs.EffectiveSpanLemmas.{IsEffectiveSpan-only, effective_span-IsEffectiveSpan}
 use Rattle.papergrid_config.specs.Parts.{span_calls}
 use Rattle.papergrid_config.specs.History.{HasSettingHistory}

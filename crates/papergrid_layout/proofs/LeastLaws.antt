@@ -1,7 +1,7 @@
 -- Least sizes beside those by shares, along a direction.
 use Rattle.std.proofs.Common.{◌≡◌, ◌∙◌, ℕ, List, sym, subst}
 use Rattle.papergrid_values.specs.declared.position.Position.{Position}
-use Rattle.papergrid_tracks.specs.ForProofs.BySizing.{AreLeastSizes, AreSizes}
+use Rattle.papergrid_tracks.proofs.BySizing.{AreLeastSizes, AreSizes}
 use Rattle.papergrid_tracks.specs.Answers.{IsAccepted}
 use Rattle.papergrid_tracks.specs.Fits.{IsLeast}
 use Rattle.papergrid_tracks.specs.LeastAnswers.{AreCriticalPath}

@@ -23,7 +23,15 @@ use Rattle.papergrid_layout.specs.Places.{Covers, HasPlace, IsFirstOver, IsInsid
 use Rattle.papergrid_layout.specs.declared.rect.Place.{Place}
 use Rattle.papergrid_layout.specs.declared.spanning.SpanningCell.{SpanningCell}
 use Rattle.papergrid_layout.specs.declared.spanning.Spanning.{Spanning}
-use Rattle.papergrid_layout.specs.ForProofs.Spanning.{AreSpanning, CoverInRow, HasSpanned, HaveAllSpanning, IsFirstCovering, IsListed, IsSpannedStep, end_row}
+use Rattle.papergrid_layout.specs.ForProofs.Spanning.{AreSpanning, CoverInRow, HaveAllSpanning, IsFirstCovering, IsListed, IsSpannedStep, end_row}
+
+-- the walk over the anchors has come to track i
+pub record HasSpanned (table : TableView) (anchors : List Anchor) (i : ℕ) (found : Spanning) : Type 0 where
+  pub shows : (k : ℕ) (a : Anchor) → i ≤ k → slice_get anchors k ≡ Some a → Shows table.grid found.sweep a.position.row a.position.col
+  pub are : AreSpanning table found.cells.items
+  pub before : (k : ℕ) (a : Anchor) → i ≤ k → slice_get anchors k ≡ Some a → All (λ c. IsBefore c.position a.position) found.cells.items
+  pub within : All (λ (c : SpanningCell). c.reach ≤ found.reach) found.cells.items
+  pub complete : (k : ℕ) (a : Anchor) → k < i → slice_get anchors k ≡ Some a → IsInsideTable table a.position → IsListed found.cells.items a.position
 
 -- ---- the walk
 

@@ -1,25 +1,28 @@
 -- What a caller that knows its rows reads of an answer: the cells told are seen through a view, as lent cells are.
 use Rattle.std.proofs.Common.{◌≡◌, ◌∙◌, ℕ, ◌+◌, ◌||◌, true, List, [], ◌∷◌, ◌++◌, length, map, nat_lt, refl, ap, subst, sym, inl, inr}
-use Rattle.std.specs.Prelude.{None, Option, Some, find}
+use Rattle.std.specs.Prelude.{None, Option, Some, find, if◌then◌else◌}
 use Rattle.std.proofs.lemmas.Bool.{cases_Bool}
 use Rattle.std.proofs.lemmas.List.{length-map}
 use Rattle.papergrid_values.specs.declared.position.Position.{Position}
 use Rattle.papergrid_values.specs.declared.direction.Direction.{Direction}
 use Rattle.papergrid_values.specs.declared.direction.Direction.TheVariants.{Columns, Rows}
-use Rattle.papergrid_tracks.specs.Laminar.{is_laminar}
+use Rattle.papergrid_tracks.specs.Certificates.{certificate_cells_of}
 use Rattle.papergrid_tracks.specs.Problem.{Problem, problem_of_demands}
-use Rattle.papergrid_tracks.proofs.LaminarLemmas.{Decides-is_laminar, not_laminar}
+use Rattle.papergrid_tracks.proofs.LaminarLemmas.{Decides-is_laminar, is_laminar, not_laminar}
 use Rattle.papergrid_tracks.specs.Ranges.{position_of}
 use Rattle.papergrid_walk.specs.Cells.{demand_by, demands_by, count_along, demands_of, placed_from, placed_row, problem_of, visible_cells}
 use Rattle.papergrid_maps.specs.Grids.{Grid}
 use Rattle.papergrid_walk.specs.ForProofs.Visits.{demands_by-append}
 use Rattle.papergrid_layout.specs.Answers.{HoldAlong, IsBothRefused, first_out_of_table, overflows}
-use Rattle.papergrid_layout.specs.Certificates.{certificate_by_shares}
 use Rattle.papergrid_tracks.specs.Sizings.{AreTooLargeBy, IsCertificateBy}
 use Rattle.papergrid_tracks.specs.declared.error.LayoutError.{LayoutError}
 use Rattle.papergrid_tracks.specs.declared.error.LayoutError.TheVariants.{Memory, OutOfTable, TooLarge}
 use Rattle.papergrid_tracks.specs.declared.sizing.Sizing.{Sizing}
 use Rattle.papergrid_tracks.specs.declared.sizing.Sizing.TheVariants.{ByShares}
+
+-- the positions of the cells that certify the sizes by shares, none where two longer ranges are neither nested nor disjoint
+abbrev pub certificate_by_shares : Problem → Option (List Position)
+certificate_by_shares problem = if is_laminar problem.demands then Some (map position_of (certificate_cells_of problem)) else None
 
 -- the positions that a certificate gives, by the test of ranges that are nested or disjoint
 pub certificate_is : (problem : Problem) (found : Option (List Position)) → IsCertificateBy ByShares problem found → found ≡ certificate_by_shares problem

@@ -13,7 +13,6 @@ use Rattle.papergrid_tracks.proofs.LoopLemmas.{minimum_within_total}
 use Rattle.papergrid_tracks.proofs.OutLemmas.{if_none}
 use Rattle.papergrid_tracks.specs.Sizings.{AreSizesBy, IsTotal}
 use Rattle.papergrid_tracks.specs.declared.sizing.Sizing.{Sizing}
-use Rattle.papergrid_tracks.specs.declared.sizing.Sizing.TheVariants.{ByShares, Least}
 use Rattle.papergrid_walk.specs.Cells.{demand_by, problem_of, side, visible_cells}
 use Rattle.papergrid_maps.specs.Grids.{Grid}
 use Rattle.papergrid_layout.specs.Laws.{HaveRoom}

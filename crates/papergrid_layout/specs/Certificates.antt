@@ -1,15 +1,12 @@
 -- What certificates and checkers say of the rows yielded.
-use Rattle.std.specs.Prelude.{◌≡◌, ◌↔◌, ℕ, Bool, IsTrue, if◌then◌else◌, List, map, Option, Some, None, Result, Vec}
+use Rattle.std.specs.Prelude.{◌≡◌, ◌↔◌, ℕ, Bool, IsTrue, List, Option, Result, Vec}
 use Rattle.papergrid_values.specs.declared.position.Position.{Position}
 use Rattle.papergrid_values.specs.declared.per_direction.PerDirection.{PerDirection}
 use Rattle.papergrid_tracks.specs.declared.error.LayoutError.{LayoutError}
 use Rattle.papergrid_tracks.specs.declared.solution.Solved.{Solved}
 use Rattle.papergrid_tracks.specs.Answers.{IsAccepted}
-use Rattle.papergrid_tracks.specs.Certificates.{certificate_cells_of}
 use Rattle.papergrid_tracks.specs.Fits.{IsLeast}
-use Rattle.papergrid_tracks.specs.Laminar.{is_laminar}
 use Rattle.papergrid_tracks.specs.Problem.{Problem, total_of}
-use Rattle.papergrid_tracks.specs.Ranges.{position_of}
 use Rattle.papergrid_tracks.specs.LeastAnswers.{AreCriticalPath}
 use Rattle.papergrid_maps.specs.Grids.{Grid}
 use Rattle.papergrid_layout.specs.Answers.{HoldAlong}
@@ -21,10 +18,6 @@ use Rattle.papergrid_tracks.specs.declared.sizing.Sizing.TheVariants.{Least}
 pub record IsChecked (problem : Problem) (sizes : List ℕ) (positions : List Position) (answer : Bool) : Type 0 where
   pub exact : IsTrue answer ↔ IsAccepted problem sizes positions
   pub least : IsTrue answer → IsLeast problem sizes
-
--- the positions of the cells that certify the sizes by shares, none where two longer ranges are neither nested nor disjoint
-abbrev pub certificate_by_shares : Problem → Option (List Position)
-certificate_by_shares problem = if is_laminar problem.demands then Some (map position_of (certificate_cells_of problem)) else None
 
 -- the positions of the cells that certify least sizes, or why there are none
 abbrev pub IsLeastCertified : {Z : Type 0} → Problem → Result (Vec Position Z) LayoutError → Type 0

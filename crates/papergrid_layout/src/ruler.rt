@@ -1,6 +1,6 @@
 //! The sizes and the lines of a table along one direction, and where its tracks begin.
 
-ghost use Rattle.std.specs.Prelude.{◌≡◌, ◌+◌, ◌<◌, ◌≤◌, ◌^◌, ◌⊎◌, ℕ, IfOk, MatchOption, cond, nat_lt};
+ghost use Rattle.std.specs.Prelude.{◌≡◌, ◌+◌, ◌<◌, ◌≤◌, ◌^◌, ◌⊎◌, IfOk, MatchOption, cond, nat_lt};
 ghost use Rattle.std.specs.Option.{SomeIff};
 ghost use Rattle.papergrid_values.specs.Positions.{along};
 ghost use Rattle.papergrid_layout.specs.Places.{extent, offset, total};

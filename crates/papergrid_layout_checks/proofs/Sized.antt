@@ -2,7 +2,7 @@
 use Rattle.std.proofs.Common.{ℕ, List}
 use Rattle.std.specs.Prelude.{Result, Ok, Err, Vec, IfOk}
 use Rattle.papergrid_layout.specs.Answers.{UnlessMemory}
-use Rattle.papergrid_tracks.specs.ForProofs.BySizing.{AreSizes}
+use Rattle.papergrid_tracks.proofs.BySizing.{AreSizes}
 use Rattle.papergrid_tracks.specs.Sizings.{IsSized}
 use Rattle.papergrid_tracks.specs.declared.sizing.Sizing.TheVariants.{ByShares}
 use Rattle.papergrid_tracks.specs.Problem.{Problem}

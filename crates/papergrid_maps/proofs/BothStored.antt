@@ -16,11 +16,17 @@ use Rattle.papergrid_values.specs.declared.position.Position.{Position}
 use Rattle.papergrid_values.specs.MapKeys.{position_cmp}
 use Rattle.papergrid_values.proofs.EntryLemmas.{none_is_not_some}
 use Rattle.papergrid_values.proofs.KeyLemmas.{exact_position_eq, exact_positions, position_ties, position_total}
-use Rattle.papergrid_maps.specs.ForProofs.SpanIndex.{DirectedSpans, HoldsBoth, IsReachedByBoth, extent_stored, extent_of}
+use Rattle.papergrid_maps.specs.ForProofs.SpanIndex.{DirectedSpans, HoldsBoth, extent_stored, extent_of}
 use Rattle.papergrid_maps.specs.Spans.{IsCoveredByBoth, Spans, span_along}
 use Rattle.papergrid_maps.specs.declared.span_index.Extent.{Extent}
 use Rattle.papergrid_maps.proofs.IndexRanges.{any_between, is_above, of_above}
 use Rattle.papergrid_maps.proofs.IndexReached.{stored_above_one}
+
+-- a rectangle of these begins above and left of the position and reaches it
+abbrev pub IsReachedByBoth : BTreeMap Position Extent → Position → Type 0
+IsReachedByBoth both p =
+    (anchor : Position) × (extent : Extent) × (tree_get position_cmp both anchor ≡ Some extent)
+    × (anchor.row < p.row) × (p.row < anchor.row + extent.rows) × (anchor.col < p.col) × (p.col < anchor.col + extent.columns)
 
 same_some : {X : Type 0} (x y : X) → ◌≡◌ {A = Option X} (Some x) (Some y) → x ≡ y
 same_some x y e = ap (λ o. unwrap_or o x) e

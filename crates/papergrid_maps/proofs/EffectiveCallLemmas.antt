@@ -12,7 +12,7 @@ use Rattle.papergrid_maps.specs.declared.entity_map.MapCall.{MapCall}
 use Rattle.papergrid_maps.specs.declared.entity_map.MapCall.TheVariants.{Insert, Remove}
 use Rattle.papergrid_maps.specs.Keys.{entity_eq}
 use Rattle.papergrid_maps.specs.EffectiveCall.{concerns, sets_all, ends_overrides, EntityStands, IsCellOverride, IsEffective, IsFound, IsGlobal, IsLast, OrElse, OverrideStands}
-use Rattle.papergrid_maps.specs.ForProofs.MapSearch.{HasMapSearch, cell_override_value, effective_value, global_value, standing_value}
+use Rattle.papergrid_maps.proofs.MapSearch.{HasMapSearch, cell_override_value, effective_value, global_value, standing_value}
 use Rattle.papergrid_maps.specs.StoredMap.{HasMapHistory, Stored}
 
 -- nothing has P

@@ -9,7 +9,7 @@ use Rattle.papergrid_values.specs.declared.direction.Direction.TheVariants.{Colu
 use Rattle.papergrid_values.specs.declared.position.Position.{Position}
 use Rattle.papergrid_values.proofs.KeyLemmas.{exact_position_eq, position_equiv}
 use Rattle.papergrid_maps.specs.Spans.{ByNone, ByRemoval, BySet, HasSpanHistory, IsEffectiveSpan, NoneDecides, RemoveSpans, SetSpan, SpanCall, Spans, decides_span, from_two, is_same_direction, spans_along}
-use Rattle.papergrid_maps.specs.ForProofs.SpanSearch.{effective_span, span_from}
+use Rattle.papergrid_maps.proofs.SpanSearch.{effective_span, span_from}
 use Rattle.std.specs.FinMap.{get}
 
 same_itself : (d : Direction) → is_same_direction d d ≡ true

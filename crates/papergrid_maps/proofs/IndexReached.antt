@@ -11,9 +11,15 @@ use Rattle.papergrid_values.specs.Positions.{along}
 use Rattle.papergrid_values.specs.declared.direction.Direction.{Direction}
 use Rattle.papergrid_values.specs.declared.position.Position.{Position}
 use Rattle.papergrid_values.specs.MapKeys.{position_cmp}
-use Rattle.papergrid_maps.specs.ForProofs.SpanIndex.{IsKeyReached, IsReached, stored_along, key_of, line_of}
+use Rattle.papergrid_maps.specs.ForProofs.SpanIndex.{IsReached, stored_along, key_of, line_of}
 use Rattle.papergrid_maps.proofs.IndexKeys.{stored_at, key_key}
 use Rattle.papergrid_maps.proofs.IndexRanges.{any_between, in_line, of_line}
+
+-- the same, by keys
+abbrev pub IsKeyReached : BTreeMap Position ℕ → Position → Type 0
+IsKeyReached spans key =
+    (start : Position) × (start.row ≡ key.row) × (start.col < key.col)
+    × (key.col < start.col + unwrap_or (tree_get position_cmp spans start) 1)
 
 -- a span that reaches further than its anchor is stored
 pub stored_above_one : (o : Option ℕ) (a b : ℕ) → a < b → b < a + unwrap_or o 1 → (n : ℕ) × (o ≡ Some n)

@@ -9,12 +9,12 @@ use Rattle.papergrid_values.specs.declared.position.Position.{Position}
 use Rattle.papergrid_values.specs.MapKeys.{position_cmp, position_eq}
 use Rattle.papergrid_values.proofs.KeyLemmas.{exact_positions, position_equiv, position_ties, position_total, exact_position}
 use Rattle.papergrid_values.proofs.TabulatedLemmas.{tabulates}
-use Rattle.papergrid_maps.specs.ForProofs.Made.{named_anchors, spans_made}
+use Rattle.papergrid_maps.proofs.Made.{named_anchors, spans_made}
 use Rattle.papergrid_maps.specs.Spans as spans
 use Rattle.papergrid_values.specs.declared.direction.Direction.{Direction}
 use Rattle.papergrid_values.specs.declared.direction.Direction.TheVariants.{Columns, Rows}
 use Rattle.papergrid_maps.specs.Spans.{RemoveSpans, SetSpan, SpanCall, Spans, from_two, is_same_direction, spans_along}
-use Rattle.papergrid_maps.specs.ForProofs.SpanSearch.{effective_span, span_from}
+use Rattle.papergrid_maps.proofs.SpanSearch.{effective_span, span_from}
 use Rattle.papergrid_maps.proofs.EffectiveSpanLemmas.{history_of_spans, spans_of_history}
 use Rattle.std.specs.FinMap.{get}
 

@@ -5,7 +5,7 @@ use Rattle.std.proofs.Common.{append_assoc}
 use Rattle.std.proofs.lemmas.List.{reverse-append}
 use Rattle.std.specs.FinMap.{get}
 use Rattle.papergrid_maps.specs.Keys.{entity_eq}
-use Rattle.papergrid_maps.specs.ForProofs.MapSearch.{cell_override_value, global_value, standing_value}
+use Rattle.papergrid_maps.proofs.MapSearch.{cell_override_value, global_value, standing_value}
 use Rattle.papergrid_maps.specs.StoredMap.{Stored, HasMapHistory, AppendsCalls}
 use Rattle.papergrid_values.specs.declared.position.Position.{Position}
 use Rattle.papergrid_values.specs.declared.entity.Entity.{Entity}

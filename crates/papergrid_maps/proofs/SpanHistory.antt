@@ -14,7 +14,7 @@ use Rattle.papergrid_values.specs.declared.direction.Direction.{Direction}
 use Rattle.papergrid_values.specs.declared.direction.Direction.TheVariants.{Columns, Rows}
 use Rattle.papergrid_values.specs.History.{AppendsHistory}
 use Rattle.papergrid_maps.specs.Spans.{Spans, SpanCall, RemoveSpans, SetSpan, HasSpan, HasSpanHistory, spans_along, from_two}
-use Rattle.papergrid_maps.specs.ForProofs.SpanSearch.{span_from}
+use Rattle.papergrid_maps.proofs.SpanSearch.{span_from}
 use Rattle.papergrid_maps.proofs.EffectiveSpanLemmas.{history_of_spans, spans_of_history}
 use Rattle.papergrid_maps.specs.ForProofs.SpanIndex.{AreFromTwo, stored_along, key_of, span_set}
 use Rattle.papergrid_values.proofs.EntryLemmas.{none_is_not_some}

@@ -9,7 +9,7 @@ use Rattle.std.specs.FinMap.{from_entries}
 use Rattle.papergrid_values.specs.MapKeys.{position_eq}
 use Rattle.papergrid_maps.specs.StoredMap.{Stored, HasNothing, stored_value, HasMapHistory}
 use Rattle.papergrid_maps.specs.EffectiveCall.{IsEffective}
-use Rattle.papergrid_maps.specs.ForProofs.MapSearch.{effective_value}
+use Rattle.papergrid_maps.proofs.MapSearch.{effective_value}
 use Rattle.papergrid_maps.specs.declared.entity_map.MapCall.{MapCall}
 use Rattle.papergrid_values.specs.declared.position.Position.{Position}
 use Rattle.papergrid_values.proofs.EntryLemmas.{no_entries, none_of_nothing}

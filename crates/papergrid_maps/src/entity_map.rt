@@ -10,9 +10,9 @@ ghost use Rattle.papergrid_values.specs.declared.entity.Entity.{Entity};
 ghost use Rattle.papergrid_values.specs.declared.position.Position.{Position};
 ghost use Rattle.papergrid_values.specs.MapKeys.{position_eq};
 ghost use Rattle.papergrid_maps.specs.Keys.{entity_eq};
-ghost use Rattle.papergrid_maps.specs.Listed.{AreSetCells, HasAtEach};
 ghost use Rattle.papergrid_maps.specs.EffectiveCall.{IsEffective};
-ghost use Rattle.papergrid_maps.specs.MapCalls.{may_grow};
+ghost use Rattle.papergrid_maps.specs.Listed.{AreSetCells, HasAtEach};
+ghost use Rattle.papergrid_maps.specs.MapCalls.{HasEqualClones, may_grow};
 ghost use Rattle.papergrid_maps.specs.StoredMap.{HasMapHistory, AppendsCalls, HasNothing, HoldsValue, held_for, stored_value};
 ghost use Rattle.papergrid_maps.specs.declared.entity_map.MapCall.{MapCall};
 
@@ -255,10 +255,10 @@ impl<T: Drop> EntityMap<T> {
 impl<T: Clone> EntityMap<T> {
     /// Sets a value. One for the whole table drops all others, and is never refused. A column's is
     /// also written to its cells in the rows that have a value, and a row's to its cells in the
-    /// columns that have one. Where an allocation fails the map is as it was. Condition: a clone of
-    /// a value equals it.
+    /// columns that have one. Where an allocation fails the map is as it was. Condition, for a
+    /// column or a row: a clone of the value equals it.
     pub fn insert(&mut self, entity: Entity, value: T) -> Result<(), AllocError>
-        requires equal_clones { (x y : T) → T.is_clone x y → y ≡ x }
+        requires equal_clones { HasEqualClones T.is_clone (MapCall.Insert entity value) }
         ensures ok { OnOk result (AppendsCalls self.old self.new
             (MapCall.Insert entity value ∷ [])) }
         ensures err { OnErr result (self.new ≡ self.old) }
@@ -300,9 +300,9 @@ impl<T: Clone> EntityMap<T> {
 
     /// Makes the calls in order, up to one whose allocation fails: then the map is that of the
     /// calls done before it. Inserts alone take memory, but for those for the whole table.
-    /// Condition: a clone of a value equals it.
+    /// Condition, for inserts for columns and rows: a clone of the value equals it.
     pub fn apply_all(&mut self, calls: Vec<MapCall<T>>) -> Result<(), Stopped>
-        requires equal_clones { (x y : T) → T.is_clone x y → y ≡ x }
+        requires equal_clones { All (HasEqualClones T.is_clone) calls.items }
         ensures ok { OnOk result (AppendsCalls self.old self.new calls.items) }
         ensures err { IfErr result (λ stopped.
             AppendsCalls self.old self.new (take stopped.done calls.items)) }
@@ -322,7 +322,7 @@ impl<T: Clone> EntityMap<T> {
     }
 
     fn apply(&mut self, call: MapCall<T>) -> Result<(), AllocError>
-        requires equal_clones { (x y : T) → T.is_clone x y → y ≡ x }
+        requires equal_clones { HasEqualClones T.is_clone call }
         ensures ok { OnOk result (AppendsCalls self.old self.new (call ∷ [])) }
         ensures err { OnErr result (self.new ≡ self.old) }
         ensures free { may_grow call ≡ false → IsOk result }
@@ -407,7 +407,7 @@ fn write_line<T: Clone>(
     index: usize,
     value: T,
 ) -> Result<(), AllocError>
-    requires equal_clones { (x y : T) → T.is_clone x y → y ≡ x }
+    requires equal_clones { (clone : T) → T.is_clone value clone → clone ≡ value }
     ensures ok { OnOk result (
         HasAtEach nat_eq lines.new (λ q.
         if nat_eq index q then Some value else map_get nat_eq lines.old q)
@@ -431,7 +431,7 @@ fn write_copies<T: Clone>(
     positions: &[Position],
     value: &T,
 ) -> Result<(), AllocError>
-    requires equal_clones { (x y : T) → T.is_clone x y → y ≡ x }
+    requires equal_clones { (clone : T) → T.is_clone value.now clone → clone ≡ value.now }
     ensures ok { OnOk result (HasAtEach position_eq cells.new (λ q.
         if is_member position_eq positions.now q then Some value.now
         else map_get position_eq cells.old q)) }

@@ -1,6 +1,6 @@
 //! The spans of one direction, found by the line that they run in.
 
-ghost use Rattle.std.specs.Prelude.{◌≡◌, ◌∷◌, ◌+◌, ◌-◌, ◌↔◌, AllPairs, IfOk, IsSome, IsTrue, None, OnErr, OnOk, nat_eq, nat_le, nat_lt};
+ghost use Rattle.std.specs.Prelude.{◌≡◌, ◌+◌, ◌-◌, ◌↔◌, AllPairs, IfOk, IsSome, IsTrue, None, OnErr, OnOk, nat_eq, nat_le, nat_lt};
 ghost use Rattle.std.specs.BTreeMap.Range.{entries_between};
 ghost use Rattle.std.specs.FinMap as map;
 ghost use Rattle.std.specs.FinMap.{get as value_at};

@@ -21,7 +21,7 @@ use Rattle.papergrid_layout.proofs.PairLemmas.{none_overflows}
 use Rattle.papergrid_tracks.specs.declared.sizing.Sizing.{Sizing}
 use Rattle.papergrid_tracks.specs.declared.sizing.Sizing.TheVariants.{ByShares, Least}
 use Rattle.papergrid_script.specs.Estimates.{Estimate, IsEstimateBy, OutOfTable, TooLarge, Sized}
-use Rattle.papergrid_script.specs.ForProofs.Estimated.{unless_large, unless_out, solution_by, estimate_by}
+use Rattle.papergrid_script.proofs.Estimated.{unless_large, unless_out, solution_by, estimate_by}
 use Rattle.papergrid_script.specs.ForProofs.Sized.{GivesEstimate}
 
 -- ---- tests and options

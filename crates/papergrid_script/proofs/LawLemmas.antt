@@ -9,29 +9,29 @@ use Rattle.papergrid_tracks.specs.declared.demand.Demand.{Demand}
 use Rattle.papergrid_values.specs.declared.direction.Direction.{Direction}
 use Rattle.papergrid_values.specs.declared.direction.Direction.TheVariants.{Columns, Rows}
 use Rattle.papergrid_tracks.specs.Certificates.{certificate_cells_of}
-use Rattle.papergrid_tracks.specs.Laminar.{is_laminar}
+use Rattle.papergrid_tracks.proofs.LaminarLemmas.{is_laminar}
 use Rattle.papergrid_tracks.specs.Problem.{Problem, total_of}
 use Rattle.papergrid_tracks.specs.Ranges.{IsInTable, first_out, position_of}
 use Rattle.papergrid_tracks.specs.Sizes.{sizes_of}
 use Rattle.papergrid_tracks.proofs.LaminarLemmas.{Decides-is_laminar, SomeCross-from_test}
 use Rattle.papergrid_tracks.proofs.OutLemmas as out_lemmas
 use Rattle.papergrid_tracks.proofs.Theorems.{AreSizes-sizes_of, Fits-sizes_of, IsCertificate-certificate_cells_of, AreSizesTooLarge-sizes_of}
-use Rattle.papergrid_tracks.proofs.LeastLemmas.{AreLeastSizes-least_of, AreCriticalPath-critical_path, AreLeastTooLarge-least_of}
+use Rattle.papergrid_tracks.proofs.LeastLemmas.{AreLeastSizes-least_of, AreCriticalPath-critical_path, fits-least, AreLeastTooLarge-least_of}
 use Rattle.papergrid_walk.specs.Cells.{demand_by, problem_of, visible_cells}
 use Rattle.papergrid_maps.specs.Grids.{Grid}
 use Rattle.papergrid_layout.specs.Answers.{first_out_of_table}
-use Rattle.papergrid_layout.specs.Certificates.{certificate_by_shares}
+use Rattle.papergrid_layout.proofs.Told.{certificate_by_shares}
 use Rattle.papergrid_layout.proofs.PairLemmas.{none_overflows}
 use Rattle.papergrid_tracks.specs.declared.sizing.Sizing.{Sizing}
 use Rattle.papergrid_tracks.specs.declared.sizing.Sizing.TheVariants.{ByShares, Least}
 use Rattle.papergrid_script.specs.Estimates.{Estimate, IsEstimate, IsEstimateBy, OutOfTable, TooLarge, Sized}
-use Rattle.papergrid_script.specs.ForProofs.Estimated.{estimate_by, estimate_of, solution_by, unless_large, unless_out}
+use Rattle.papergrid_script.proofs.Estimated.{estimate_by, estimate_of, solution_by, unless_large, unless_out}
 use Rattle.papergrid_walk.specs.Measures.{text_measure}
 use Rattle.papergrid_script.specs.Scripts.{Table}
 use Rattle.papergrid_tracks.specs.Sizings.{AreSizesBy, AreTooLargeBy, IsCertificateBy}
 use Rattle.papergrid_layout.specs.Certificates.{IsSolutionBy, Solution}
 use Rattle.papergrid_script.proofs.EstimateLemmas.{estimate-only, solutions_by, total_by}
-use Rattle.papergrid_config.specs.ForProofs.Made.{grid_of}
+use Rattle.papergrid_config.proofs.Made.{grid_of}
 use Rattle.papergrid_config.proofs.SettingGridLemmas.{grid_covers, is-grid, one-grid}
 
 -- ---- along a direction
@@ -56,7 +56,7 @@ module _ (problem : Problem) (table : All (IsInTable problem.count) problem.dema
 
   is_certificate : (sizing : Sizing) → (solution_by sizing problem).total < 2 ^ 64 → IsCertificateBy sizing problem (solution_by sizing problem).certificate
   is_certificate ByShares small = shares_certificate small
-  is_certificate Least small = AreCriticalPath-critical_path problem table inside small
+  is_certificate Least small = AreCriticalPath-critical_path problem table inside (fits-least problem table small)
 
 -- where the least sizes are too large, so are those by shares
 shares-past : (problem : Problem) → AreTooLargeBy Least problem → AreTooLargeBy ByShares problem

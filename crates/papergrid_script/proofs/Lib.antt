@@ -1,9 +1,11 @@
 pub mod ArgumentLemmas
 mod CharacterLemmas
 mod CutLemmas
+mod DescribesLemmas
 mod DraftLemmas
 mod EscapeLemmas
 mod EstimateLemmas
+pub mod Estimated
 mod LastByteLemmas
 mod LawLemmas
 mod LineLemmas
@@ -18,4 +20,3 @@ mod ScriptLemmas
 mod ScriptLineLemmas
 mod SeenLemmas
 mod SpellLemmas
-mod DescribesLemmas

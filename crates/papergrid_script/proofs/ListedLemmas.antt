@@ -19,15 +19,15 @@ use Rattle.papergrid_tables.specs.BorderCalls.{BorderCall}
 use Rattle.papergrid_values.specs.MapKeys.{position_cmp}
 use Rattle.papergrid_tables.specs.ForProofs.LineSearch.{ends_at_column, ends_at_row, vertical_line_at, horizontal_line_at}
 use Rattle.papergrid_tables.specs.ForProofs.LineTested.{horizontal_tested, line_test, vertical_tested}
-use Rattle.papergrid_values.specs.Tabulated.{tabulation, with_value}
-use Rattle.papergrid_tables.specs.ForProofs.Made.{borders_made, named_columns, named_positions, named_rows}
+use Rattle.papergrid_values.proofs.Tabulated.{tabulation, with_value}
+use Rattle.papergrid_tables.proofs.Made.{borders_made, named_columns, named_positions, named_rows}
 use Rattle.papergrid_tables.specs.BorderParts.{at_ends, parts_from}
-use Rattle.papergrid_maps.specs.ForProofs.Made.{named_anchors, spans_made}
+use Rattle.papergrid_maps.proofs.Made.{named_anchors, spans_made}
 use Rattle.papergrid_maps.specs.Spans.{SpanCall, Spans, from_two, span_along}
 use Rattle.papergrid_maps.specs.ForProofs.SpanVisible.{seen_visible, visible_seen, visible_test}
 use Rattle.papergrid_maps.specs.ForProofs.VisibleSearch.{is_hidden_by}
 use Rattle.papergrid_maps.specs.Visible.{is_visible}
-use Rattle.papergrid_maps.specs.ForProofs.SpanSearch.{effective_span}
+use Rattle.papergrid_maps.proofs.SpanSearch.{effective_span}
 use Rattle.papergrid_values.proofs.KeyLemmas.{position_total}
 use Rattle.papergrid_values.proofs.ResultLemmas.{same_answer}
 use Rattle.papergrid_config.specs.Parts.{character_calls, span_calls}
@@ -39,8 +39,8 @@ use Rattle.papergrid_script.specs.declared.answer.RunEnd.{RunEnd}
 use Rattle.papergrid_script.specs.declared.answer.RunEnd.TheVariants.{BadScript}
 use Rattle.papergrid_script.proofs.OutcomeLemmas.{outcome-computed, outcome-only}
 use Rattle.papergrid_script.specs.Estimates.{Estimate}
-use Rattle.papergrid_script.specs.ForProofs.Estimated.{estimate_by, estimate_of, outcome_of}
-use Rattle.papergrid_config.specs.ForProofs.Made.{grid_of, padding_of}
+use Rattle.papergrid_script.proofs.Estimated.{estimate_by, estimate_of, outcome_of}
+use Rattle.papergrid_config.proofs.Made.{grid_of, padding_of}
 use Rattle.papergrid_walk.specs.Measures.{text_measure}
 use Rattle.papergrid_script.specs.Outputs.{bad_line_text, estimate_end, estimate_text, outcome_end, outcome_text}
 use Rattle.papergrid_script.specs.Rows.{GivesBy}

@@ -5,7 +5,7 @@ use Rattle.papergrid_tracks.specs.declared.sizing.Sizing.{Sizing}
 use Rattle.papergrid_script.specs.Estimates.{Estimate, IsEstimate}
 use Rattle.papergrid_script.specs.Outputs.{BadLine, Estimated, IsOutcome, OfOutcome, Outcome}
 use Rattle.papergrid_script.specs.Scripts.{IsScript, Table}
-use Rattle.papergrid_script.specs.ForProofs.Estimated.{outcome_of}
+use Rattle.papergrid_script.proofs.Estimated.{outcome_of}
 use Rattle.papergrid_script.specs.ForProofs.Read.{table_of}
 use Rattle.papergrid_script.proofs.LawLemmas.{estimate-computed, only-estimate}
 use Rattle.papergrid_script.proofs.ScriptLemmas.{script-only, script-read}

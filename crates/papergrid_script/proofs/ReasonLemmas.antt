@@ -5,7 +5,7 @@ use Rattle.papergrid_values.specs.declared.direction.Direction.{Direction}
 use Rattle.papergrid_values.specs.declared.direction.Direction.TheVariants.{Columns, Rows}
 use Rattle.papergrid_values.specs.declared.position.Position.{Position}
 use Rattle.papergrid_maps.specs.Spans.{IsEffectiveSpan}
-use Rattle.papergrid_maps.specs.ForProofs.SpanSearch.{effective_span}
+use Rattle.papergrid_maps.proofs.SpanSearch.{effective_span}
 use Rattle.papergrid_maps.proofs.EffectiveSpanLemmas.{effective_span-IsEffectiveSpan}
 use Rattle.papergrid_config.specs.Parts.{span_calls}
 use Rattle.papergrid_script.specs.declared.explained.Reason.{Reason}

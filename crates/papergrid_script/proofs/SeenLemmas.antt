@@ -12,7 +12,7 @@ use Rattle.papergrid_config.specs.Grids.{spanned_grid}
 use Rattle.papergrid_walk.specs.Measures.{line_measure}
 use Rattle.papergrid_script.specs.Estimates.{Estimate, IsEstimate, IsEstimateBy}
 use Rattle.papergrid_walk.specs.Measures.{text_measure}
-use Rattle.papergrid_config.specs.ForProofs.Made.{grid_of}
+use Rattle.papergrid_config.proofs.Made.{grid_of}
 use Rattle.papergrid_script.specs.Seen.{rows_seen, table_seen}
 use Rattle.papergrid_script.specs.Settings.{setting_told}
 use Rattle.papergrid_script.specs.ForProofs.Sized.{GivesEstimate}

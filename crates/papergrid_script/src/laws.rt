@@ -3,7 +3,6 @@
 ghost use Rattle.std.specs.Prelude.{◌≡◌, ◌↔◌, ℕ, List, None, Some, true, All, Result, Ok};
 ghost use Rattle.papergrid_values.specs.declared.entity.Entity.{Entity};
 ghost use Rattle.papergrid_config.specs.Applied.{is_in_range};
-ghost use Rattle.papergrid_config.specs.declared.setting.Setting.{Setting};
 ghost use Rattle.papergrid_tracks.specs.declared.sizing.Sizing.{Sizing};
 ghost use Rattle.papergrid_tracks.specs.declared.sizing.Sizing.TheVariants.{ByShares, Least};
 ghost use Rattle.papergrid_script.specs.Estimates.{Estimate, IsEstimate, TooLarge};

@@ -4,9 +4,10 @@ pub mod BorderFound
 pub mod BorderHistory
 pub mod CountLemmas
 pub mod CountedFound
+pub mod HistoryEqual
+pub mod Made
 pub mod MadeTables
 pub mod OffsetEqual
 pub mod OverrideHistory
 pub mod PartCopies
 pub mod RoomLemmas
-pub mod HistoryEqual

@@ -14,7 +14,7 @@ use Rattle.papergrid_values.specs.declared.position.Position.{Position}
 use Rattle.papergrid_tables.specs.BorderCalls.{at_position, below, right_of, BorderCall, InsertBorder, RemoveBorder, InsertHorizontalLine, RemoveHorizontalLine, InsertVerticalLine, RemoveVerticalLine, Clear, is_edge_of, is_corner_of, edge_part, corner_part}
 use Rattle.papergrid_tables.specs.StoredBorders.{StoredBorders, HasBorderHistory, parts_of_borders}
 use Rattle.papergrid_values.specs.MapKeys.{position_cmp, position_eq}
-use Rattle.papergrid_tables.specs.ForProofs.Made.{borders_made, named_columns, named_positions, named_rows}
+use Rattle.papergrid_tables.proofs.Made.{borders_made, named_columns, named_positions, named_rows}
 use Rattle.papergrid_tables.specs.BorderParts.{BorderParts, parts_after_call, no_parts, parts_from}
 use Rattle.papergrid_values.proofs.TabulatedLemmas.{tabulates}
 use Rattle.papergrid_values.proofs.KeyLemmas.{exact_position, exact_positions, position_equiv, position_ties, position_total}
@@ -59,19 +59,26 @@ line_named k q line old h =
       | false ↦ λ _ there. or_right (list_any (eq_by_cmp nat_cmp q) (k ∷ [])) (is_some old) there
     ] refl h
 
-row_named : {T : Type 0} (call : BorderCall T) (old : BorderParts T) (q : ℕ) → is_some ((parts_after_call call old).horizontal_line q) ≡ true
-    → (list_any (eq_by_cmp nat_cmp q) (named_rows call) || is_some (old.horizontal_line q)) ≡ true
-row_named (InsertHorizontalLine k line) old q h = line_named k q line (old.horizontal_line q) h
-row_named (RemoveHorizontalLine k) old q h = kept_there (eqb k q) (old.horizontal_line q) h
-row_named Clear old q h = absurd (false≢true h)
-row_named call old q h = h
+-- whether a line is set at an index: a horizontal one (Rows), or a vertical one; and which lines a call names
+module _ {T : Type 0} where
+  abbrev has_line_at : Direction → BorderParts T → ℕ → Bool
+  has_line_at Rows parts k = is_some (parts.horizontal_line k)
+  has_line_at Columns parts k = is_some (parts.vertical_line k)
 
-column_named : {T : Type 0} (call : BorderCall T) (old : BorderParts T) (q : ℕ) → is_some ((parts_after_call call old).vertical_line q) ≡ true
-    → (list_any (eq_by_cmp nat_cmp q) (named_columns call) || is_some (old.vertical_line q)) ≡ true
-column_named (InsertVerticalLine k line) old q h = line_named k q line (old.vertical_line q) h
-column_named (RemoveVerticalLine k) old q h = kept_there (eqb k q) (old.vertical_line q) h
-column_named Clear old q h = absurd (false≢true h)
-column_named call old q h = h
+  abbrev named_lines : Direction → BorderCall T → List ℕ
+  named_lines Rows = named_rows
+  named_lines Columns = named_columns
+
+  line_at_named : (direction : Direction) (call : BorderCall T) (old : BorderParts T) (q : ℕ) → has_line_at direction (parts_after_call call old) q ≡ true
+      → (list_any (eq_by_cmp nat_cmp q) (named_lines direction call) || has_line_at direction old q) ≡ true
+  line_at_named Rows (InsertHorizontalLine k line) old q h = line_named k q line (old.horizontal_line q) h
+  line_at_named Columns (InsertVerticalLine k line) old q h = line_named k q line (old.vertical_line q) h
+  line_at_named Rows (RemoveHorizontalLine k) old q h = kept_there (eqb k q) (old.horizontal_line q) h
+  line_at_named Columns (RemoveVerticalLine k) old q h = kept_there (eqb k q) (old.vertical_line q) h
+  line_at_named Rows Clear old q h = absurd (false≢true h)
+  line_at_named Columns Clear old q h = absurd (false≢true h)
+  line_at_named Rows call old q h = h
+  line_at_named Columns call old q h = h
 
 -- a part at a position: it is written there alone
 set_at : {T : Type 0} (p q : Position) (part : Option T) → is_some (at_position p q part) ≡ true → eq_by_cmp position_cmp q p ≡ true
@@ -140,8 +147,8 @@ module _ {T : Type 0} where
       λ i. record {
         global = (parts_from older).global;
         frame = (parts_from older).frame;
-        horizontal_line = λ n. tabulates nat_cmp_total exact_number (parts_from older).horizontal_line (flat_map named_rows older) (all_named nat_cmp (λ (parts : BorderParts T). parts.horizontal_line) named_rows (λ q h. false≢true h) row_named older) n i;
-        vertical_line = λ n. tabulates nat_cmp_total exact_number (parts_from older).vertical_line (flat_map named_columns older) (all_named nat_cmp (λ (parts : BorderParts T). parts.vertical_line) named_columns (λ q h. false≢true h) column_named older) n i;
+        horizontal_line = λ n. tabulates nat_cmp_total exact_number (parts_from older).horizontal_line (flat_map named_rows older) (all_named nat_cmp (λ (parts : BorderParts T). parts.horizontal_line) named_rows (λ q h. false≢true h) (line_at_named Rows) older) n i;
+        vertical_line = λ n. tabulates nat_cmp_total exact_number (parts_from older).vertical_line (flat_map named_columns older) (all_named nat_cmp (λ (parts : BorderParts T). parts.vertical_line) named_columns (λ q h. false≢true h) (line_at_named Columns) older) n i;
         horizontal_edge = λ p. tabulates position_total exact_position (parts_from older).horizontal_edge (flat_map named_positions older) (all_named position_cmp (λ (parts : BorderParts T). parts.horizontal_edge) named_positions (λ q h. false≢true h) (edge_named Rows) older) p i;
         vertical_edge = λ p. tabulates position_total exact_position (parts_from older).vertical_edge (flat_map named_positions older) (all_named position_cmp (λ (parts : BorderParts T). parts.vertical_edge) named_positions (λ q h. false≢true h) (edge_named Columns) older) p i;
         corner = λ p. tabulates position_total exact_position (parts_from older).corner (flat_map named_positions older) (all_named position_cmp (λ (parts : BorderParts T). parts.corner) named_positions (λ q h. false≢true h) corner_named older) p i;

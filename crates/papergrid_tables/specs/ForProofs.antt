@@ -1,4 +1,5 @@
--- What no contract of the facade's calls reaches, and no law: only contracts of functions below them and proofs speak of it.
+-- What contracts of the facade's calls and laws do not reach, but for `line_test` of LineTested, which is a test
+-- with its proof: only contracts of functions below them and proofs speak of it.
 pub mod BorderCodes
 pub mod BorderEq
 pub mod CountedLines
@@ -7,7 +8,6 @@ pub mod CountedTable
 pub mod Counts
 pub mod LineSearch
 pub mod LineTested
-pub mod Made
 pub mod Maps
 pub mod OffsetEq
 pub mod OverrideScan

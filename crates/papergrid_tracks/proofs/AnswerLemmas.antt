@@ -5,7 +5,7 @@ use Rattle.std.proofs.lemmas.List.FromFn.{fill_by_all, get_or-map-range_with_len
 use Rattle.std.specs.declared.alloc.Global.{Global}
 use Rattle.papergrid_values.specs.Lines.{all_lines}
 use Rattle.papergrid_values.specs.declared.position.Position.{Position}
-use Rattle.papergrid_tracks.specs.ForProofs.BySizing.{AreLeastSizes, AreLeastTooLarge}
+use Rattle.papergrid_tracks.proofs.BySizing.{AreLeastSizes, AreLeastTooLarge}
 use Rattle.papergrid_tracks.specs.declared.demand.Demand.{Demand}
 use Rattle.papergrid_tracks.specs.declared.error.LayoutError.{LayoutError}
 use Rattle.papergrid_tracks.specs.declared.error.LayoutError.TheVariants.{OutOfTable, TooLarge, Memory}
@@ -24,15 +24,15 @@ use Rattle.papergrid_tracks.proofs.OutLemmas.{AreSizesTooLarge-large, large_any,
 use Rattle.papergrid_tracks.proofs.DemandLemmas.{by_span-kept}
 use Rattle.papergrid_tracks.proofs.SettleLemmas.{base-all, table-all}
 use Rattle.papergrid_tracks.specs.declared.limits.Limits.{Limits}
-use Rattle.papergrid_tracks.specs.LowestPositions.{lowest_position}
 use Rattle.papergrid_tracks.specs.TrackBoundaries.{net_minimum, boundaries_of, sizes_between}
-use Rattle.papergrid_tracks.specs.Least.{highest_position, least_of}
 use Rattle.papergrid_tracks.specs.ForProofs.Laid.{AreLaid, with_net_minimum}
 use Rattle.papergrid_tracks.specs.ForProofs.Limits.{AreLimits, AreLowestBoundaries, AreHighestBoundaries, Refuses}
 use Rattle.papergrid_tracks.specs.ForProofs.LeastSettled.{AreLowestPositions, CertifiesInOrder}
 use Rattle.papergrid_tracks.proofs.BoundaryLemmas.{AreBoundaries-boundaries_of, take_whole}
-use Rattle.papergrid_tracks.proofs.LeastLemmas.{AreLeastSizes-least_of, AreLeastTooLarge-by_all, total-least_of}
-use Rattle.papergrid_tracks.proofs.LeastDemandLemmas.{AreLaid-from_boundaries, lowest_position-is, highest_position-is, longer_asking}
+use Rattle.papergrid_tracks.proofs.LeastLemmas.{AreLeastSizes-least_of, fits-least, AreLeastTooLarge-by_all, total-least_of}
+use Rattle.papergrid_tracks.proofs.LeastDemandLemmas.{AreLaid-from_boundaries, lowest-asked, lowest_position-is, highest_position-is, longer_asking}
+use Rattle.papergrid_tracks.proofs.LowestLemmas.{lowest_position}
+use Rattle.papergrid_tracks.proofs.HighestLemmas.{highest_position, least_of}
 
 -- a large minimum size makes the sizes too large, however they are chosen
 pub AreTooLargeBy-large : (sizing : Sizing) (n : ℕ) (kept : Demands) (demands : List Demand) → AreGathered n kept demands → (line : ℕ → Bool) →
@@ -154,11 +154,11 @@ module _ {line : ℕ → Bool} {n : ℕ} {kept : Demands} {demands : List Demand
       AreLowestPositions-made = record {
         none_out = out_kept n kept demands is_kept ∙ begun.inside;
         table = table;
-        total = fits-made;
+        total = λ sizes least. fits-least (problem_of_demands line n demands) table fits-made sizes least;
         lined = begun.lined;
         drawn = begun.drawn;
         many = are.lowest_position.one_more ∙ ap (λ k. k + 1) begun.many;
-        boundary_at = lowest_position-is line drawn n is_kept.limit demands begun.drawn table is_kept.below base base_is begun.many limits.lowest_position.items lowest_position-asking;
+        lowest = lowest-asked line drawn n is_kept.limit demands begun.drawn table is_kept.below base base_is begun.many limits.lowest_position.items lowest_position-asking;
       }
 
 -- where the demands stand in order, these are the positions that certify the sizes

@@ -10,10 +10,8 @@ use Rattle.papergrid_tracks.specs.Fits.{top_minimum}
 use Rattle.papergrid_tracks.proofs.Upto.{upto, sum-take, holds-inside}
 use Rattle.papergrid_tracks.proofs.Greatest.{minimum-below_greatest}
 use Rattle.papergrid_tracks.specs.TrackBoundaries.{net_minimum, boundaries_of}
-use Rattle.papergrid_tracks.specs.LowestPositions.{pushed_lower_bound, lowest_position_to, lowest_position}
-use Rattle.papergrid_tracks.specs.Least.{mirror, lowest_position_back, highest_position, least_sizes}
-use Rattle.papergrid_tracks.proofs.LowestLemmas.{pushed-below, lowest_position_to-at, lowest_position_to-is, lowest_position-monotone}
-use Rattle.papergrid_tracks.proofs.HighestLemmas.{mirrored-twice, table-mirrored}
+use Rattle.papergrid_tracks.proofs.LowestLemmas.{pushed_lower_bound, lowest_position_to, lowest_position, pushed-below, lowest_position_to-at, lowest_position_to-is, lowest_position-monotone}
+use Rattle.papergrid_tracks.proofs.HighestLemmas.{mirror, lowest_position_back, highest_position, least_sizes, mirrored-twice, table-mirrored}
 
 -- the lowest position of a boundary is past the one before by at most what a cell asks whose range ends there
 lowest_position-step : (asks : Demand → ℕ) (ds : List Demand) (n : ℕ) → All (IsInTable n) ds → (i m : ℕ) → All (λ d. end_of d ≡ suc i → asks d ≤ m) ds → lowest_position asks ds (suc i) ≤ lowest_position asks ds i + m

@@ -1,6 +1,6 @@
 -- The cells that are tight at the lowest positions of the boundaries are a certificate of the least total.
 use Rattle.std.proofs.Common.{◌≡◌, ℕ, zero, suc, ◌+◌, ◌-◌, ◌<◌, ◌≤◌, ◌≢◌, max, Bool, true, false, ◌&&◌, ◌==◌, inl, inr, List, [], ◌∷◌, length, get_or, sum, sum_by, refl, sym, ◌∙◌, arith, Option, Some, None, eqb, eqb-true, eq-eqb, ne_eqb}
-use Rattle.std.specs.Prelude.{All, AllPairs, Contains, find, reverse}
+use Rattle.std.specs.Prelude.{All, AllPairs, Contains, find, if◌then◌else◌, reverse}
 use Rattle.std.specs.List.{AllByRecursion}
 use Rattle.std.proofs.lemmas.Bool.{cases_Bool, cases_eq, and_parts, and_from, true≢false}
 use Rattle.std.proofs.lemmas.List.Elements.{All-from_recursion, recursion_from_All, All-contains, All-contains_itself}
@@ -8,17 +8,33 @@ use Rattle.std.proofs.lemmas.List.{get_or-reverse, length-reverse}
 use Rattle.std.proofs.lemmas.List.Sorted.{All-permutation, IsPermutation-reverse, sum_by-IsPermutation}
 use Rattle.std.proofs.lemmas.List.Sums.{sum_by-cons}
 use Rattle.papergrid_tracks.specs.declared.demand.Demand.{Demand}
-use Rattle.papergrid_tracks.specs.Problem.{problem_of_demands}
+use Rattle.papergrid_tracks.specs.Problem.{Problem, problem_of_demands}
 use Rattle.papergrid_tracks.specs.Ranges.{end_of, inner_lines, AreDisjoint, IsInTable}
 use Rattle.papergrid_tracks.specs.Fits.{IsCertificate}
 use Rattle.papergrid_tracks.proofs.RangeLemmas.{ArePairwiseDisjoint, AllPairs-from_pairwise}
 use Rattle.papergrid_tracks.proofs.Counting.{find-all}
 use Rattle.papergrid_tracks.proofs.FitBound.{ByRecursion-weaker}
 use Rattle.papergrid_tracks.specs.TrackBoundaries.{net_minimum}
-use Rattle.papergrid_tracks.specs.LowestPositions.{pushed_lower_bound, lowest_position_to, lowest_position}
-use Rattle.papergrid_tracks.specs.CriticalPath.{is_tight, tight_cell, with_earlier, tight_cells, critical_path}
+use Rattle.papergrid_tracks.specs.CriticalPath.{is_tight}
+use Rattle.papergrid_tracks.specs.ForProofs.Followed.{with_earlier}
 use Rattle.papergrid_tracks.proofs.EarlierLemmas.{some_none}
-use Rattle.papergrid_tracks.proofs.LowestLemmas.{pushed-above, pushed-below, lowest_position_to-at, lowest_position_to-is, lowest_position-rises, lowest_position-monotone}
+use Rattle.papergrid_tracks.proofs.LowestLemmas.{pushed_lower_bound, lowest_position_to, lowest_position, pushed-above, pushed-below, lowest_position_to-at, lowest_position_to-is, lowest_position-rises, lowest_position-monotone}
+
+-- the cell that is taken as the tight one at the boundary at i: the first that is
+abbrev pub tight_cell : (Demand → ℕ) → List Demand → ℕ → Option Demand
+tight_cell asks demands i = find (is_tight asks (lowest_position asks demands) i) demands
+
+-- the cells on the way back from the boundary at i. Where the boundary before has the same lowest position, the way
+-- goes on to that one. Else it takes the tight cell, and goes on to where its range starts
+abbrev pub tight_cells : (Demand → ℕ) → List Demand → ℕ → ℕ → List Demand
+tight_cells asks demands zero i = []
+tight_cells asks demands (suc steps) i =
+    if lowest_position asks demands i == lowest_position asks demands (i - 1) then tight_cells asks demands steps (i - 1)
+    else with_earlier (tight_cell asks demands i) (tight_cells asks demands steps)
+
+-- the cells of the critical path, by the starts of their ranges
+abbrev pub critical_path : Problem → List Demand
+critical_path problem = reverse (tight_cells (net_minimum problem.line) problem.demands problem.count problem.count)
 
 -- where `find` finds nothing, nothing passes
 pub find-nothing : (test : Demand → Bool) (ds : List Demand) → find test ds ≡ None → AllByRecursion (λ d. test d ≡ false) ds
@@ -43,7 +59,7 @@ module _ (asks : Demand → ℕ) (ds : List Demand) (n : ℕ) (table : All (IsIn
     pub ends : end_of d ≡ suc i
     pub is_tight : lowest_position asks ds d.start + asks d ≡ lowest_position asks ds (suc i)
 
-  IsTight-from : (i : ℕ) (d : Demand) → Contains ds d → is_tight asks ds (suc i) d ≡ true → IsTight i d
+  IsTight-from : (i : ℕ) (d : Demand) → Contains ds d → is_tight asks (lowest_position asks ds) (suc i) d ≡ true → IsTight i d
   IsTight-from i d listed e =
       let parts : (eqb (end_of d) (suc i) ≡ true) × (eqb (lowest_position asks ds d.start + asks d) (lowest_position asks ds (suc i)) ≡ true) =
       and_parts (eqb (end_of d) (suc i)) (eqb (lowest_position asks ds d.start + asks d) (lowest_position asks ds (suc i))) e in
@@ -51,20 +67,20 @@ module _ (asks : Demand → ℕ) (ds : List Demand) (n : ℕ) (table : All (IsIn
 
   pub tight_cell-is_tight : (i : ℕ) (d : Demand) → tight_cell asks ds (suc i) ≡ Some d → IsTight i d
   tight_cell-is_tight i d e =
-      let found : (is_tight asks ds (suc i) d ≡ true) × Contains ds d =
-      find-all (Contains ds) (is_tight asks ds (suc i)) ds d (recursion_from_All (Contains ds) ds (All-contains_itself ds)) e in
+      let found : (is_tight asks (lowest_position asks ds) (suc i) d ≡ true) × Contains ds d =
+      find-all (Contains ds) (is_tight asks (lowest_position asks ds) (suc i)) ds d (recursion_from_All (Contains ds) ds (All-contains_itself ds)) e in
       IsTight-from i d found.1 found.0
 
   -- where none is found, no cell is tight at the boundary
-  none-is_tight : (i : ℕ) → tight_cell asks ds (suc i) ≡ None → All (λ d. is_tight asks ds (suc i) d ≡ false) ds
-  none-is_tight i e = All-from_recursion (λ d. is_tight asks ds (suc i) d ≡ false) ds (find-nothing (is_tight asks ds (suc i)) ds e)
+  none-is_tight : (i : ℕ) → tight_cell asks ds (suc i) ≡ None → All (λ d. is_tight asks (lowest_position asks ds) (suc i) d ≡ false) ds
+  none-is_tight i e = All-from_recursion (λ d. is_tight asks (lowest_position asks ds) (suc i) d ≡ false) ds (find-nothing (is_tight asks (lowest_position asks ds) (suc i)) ds e)
 
   -- a boundary past the one before has a tight cell
   pub tight_cell-none : (i : ℕ) → lowest_position asks ds i < lowest_position asks ds (suc i) → tight_cell asks ds (suc i) ≡ None → ⊥
   tight_cell-none i past e =
       let m : ℕ = lowest_position asks ds (suc i) - 1 in
       let at : lowest_position asks ds (suc i) ≡ max (lowest_position asks ds i) (pushed_lower_bound asks ds (lowest_position_to asks ds i) (suc i)) = lowest_position_to-at asks ds i in
-      let none : All (λ d. is_tight asks ds (suc i) d ≡ false) ds = none-is_tight i e in
+      let none : All (λ d. is_tight asks (lowest_position asks ds) (suc i) d ≡ false) ds = none-is_tight i e in
       let top : pushed_lower_bound asks ds (lowest_position_to asks ds i) (suc i) ≤ lowest_position asks ds (suc i) = omega arith in
       let below : pushed_lower_bound asks ds (lowest_position_to asks ds i) (suc i) ≤ lowest_position asks ds (suc i) - 1 =
       pushed-below asks ds (lowest_position_to asks ds i) (suc i) (lowest_position asks ds (suc i) - 1) (λ k d l ends. push_at top k d l ends (table k d l) (none k d l)) in

@@ -6,40 +6,40 @@ use Rattle.std.proofs.lemmas.List.{append_assoc, append-nil, drop_more, get_or-s
 use Rattle.papergrid_tracks.specs.declared.demand.Demand.{Demand}
 use Rattle.papergrid_tracks.specs.Ranges.{end_of, position_of}
 use Rattle.papergrid_values.specs.declared.position.Position.{Position}
-use Rattle.papergrid_tracks.specs.ForProofs.Followed.{earlier_cell, followed_cells, with_minimum, is_tight_by}
-use Rattle.papergrid_tracks.specs.CriticalPath.{with_earlier}
+use Rattle.papergrid_tracks.specs.ForProofs.Followed.{earlier_cell, followed_cells, with_earlier, with_minimum}
+use Rattle.papergrid_tracks.specs.CriticalPath.{is_tight}
 use Rattle.papergrid_tracks.proofs.EarlierLemmas.{earlier-either, some_none}
 use Rattle.papergrid_tracks.proofs.LaidLemmas.{no_cell}
 
 -- a cell that stands before others, and is tight at its boundary or not
 module _ (asks : Demand → ℕ) (boundary : ℕ → ℕ) (d : Demand) (later : List Demand) where
-  find-is_tight : (i : ℕ) → end_of d ≡ i → (boundary d.start + asks d == boundary (end_of d)) ≡ true → find (is_tight_by asks boundary i) (d ∷ later) ≡ Some d
+  find-is_tight : (i : ℕ) → end_of d ≡ i → (boundary d.start + asks d == boundary (end_of d)) ≡ true → find (is_tight asks boundary i) (d ∷ later) ≡ Some d
   find-is_tight i ends is_tight =
       let e : (boundary d.start + asks d == boundary i) ≡ true = ap (λ k. boundary d.start + asks d == boundary k) (sym ends) ∙ is_tight in
       rw (eq-eqb (end_of d) i ends, e) refl
 
-  find-passes : (i : ℕ) → end_of d ≡ i → (boundary d.start + asks d == boundary (end_of d)) ≡ false → find (is_tight_by asks boundary i) (d ∷ later) ≡ find (is_tight_by asks boundary i) later
+  find-passes : (i : ℕ) → end_of d ≡ i → (boundary d.start + asks d == boundary (end_of d)) ≡ false → find (is_tight asks boundary i) (d ∷ later) ≡ find (is_tight asks boundary i) later
   find-passes i ends is_tight =
       let e : (boundary d.start + asks d == boundary i) ≡ false = ap (λ k. boundary d.start + asks d == boundary k) (sym ends) ∙ is_tight in
       rw (eq-eqb (end_of d) i ends, e) refl
 
-  find-elsewhere : (i : ℕ) → end_of d ≢ i → find (is_tight_by asks boundary i) (d ∷ later) ≡ find (is_tight_by asks boundary i) later
+  find-elsewhere : (i : ℕ) → end_of d ≢ i → find (is_tight asks boundary i) (d ∷ later) ≡ find (is_tight asks boundary i) later
   find-elsewhere i ne = rw (ne_eqb (end_of d) i ne) refl
 
 module _ (asks : Demand → ℕ) (boundary : ℕ → ℕ) (cells : List Demand) (j : ℕ) (listed : j < length cells) (tight_cells : List (Option Demand))
-    (first : (i : ℕ) → i < length tight_cells → get_or tight_cells i None ≡ find (is_tight_by asks boundary i) (drop (j + 1) cells)) where
-  split : (i : ℕ) → find (is_tight_by asks boundary i) (drop j cells) ≡ find (is_tight_by asks boundary i) (get_or cells j no_cell ∷ drop (j + 1) cells)
-  split i = ap (find (is_tight_by asks boundary i)) (drop_more cells j no_cell listed)
+    (first : (i : ℕ) → i < length tight_cells → get_or tight_cells i None ≡ find (is_tight asks boundary i) (drop (j + 1) cells)) where
+  split : (i : ℕ) → find (is_tight asks boundary i) (drop j cells) ≡ find (is_tight asks boundary i) (get_or cells j no_cell ∷ drop (j + 1) cells)
+  split i = ap (find (is_tight asks boundary i)) (drop_more cells j no_cell listed)
 
   pub first-kept : (boundary (get_or cells j no_cell).start + asks (get_or cells j no_cell) == boundary (end_of (get_or cells j no_cell))) ≡ false →
-      (i : ℕ) → i < length tight_cells → get_or tight_cells i None ≡ find (is_tight_by asks boundary i) (drop j cells)
+      (i : ℕ) → i < length tight_cells → get_or tight_cells i None ≡ find (is_tight asks boundary i) (drop j cells)
   first-kept passes i l = elim (cases_eq (end_of (get_or cells j no_cell)) i) [
     | inl e ↦ first i l ∙ sym (split i ∙ find-passes asks boundary (get_or cells j no_cell) (drop (j + 1) cells) i e passes)
     | inr ne ↦ first i l ∙ sym (split i ∙ find-elsewhere asks boundary (get_or cells j no_cell) (drop (j + 1) cells) i ne)
   ]
 
   pub first-written : (boundary (get_or cells j no_cell).start + asks (get_or cells j no_cell) == boundary (end_of (get_or cells j no_cell))) ≡ true →
-      (i : ℕ) → i < length tight_cells → get_or (set tight_cells (end_of (get_or cells j no_cell)) (Some (get_or cells j no_cell))) i None ≡ find (is_tight_by asks boundary i) (drop j cells)
+      (i : ℕ) → i < length tight_cells → get_or (set tight_cells (end_of (get_or cells j no_cell)) (Some (get_or cells j no_cell))) i None ≡ find (is_tight asks boundary i) (drop j cells)
   first-written is_tight i l = elim (cases_eq (end_of (get_or cells j no_cell)) i) [
     | inl e ↦
         ap (λ k. get_or (set tight_cells k (Some (get_or cells j no_cell))) i None) e

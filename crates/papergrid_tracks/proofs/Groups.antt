@@ -8,7 +8,7 @@ use Rattle.std.proofs.lemmas.Bool.Decides.{nat_tests}
 use Rattle.std.proofs.lemmas.List.Elements.{recursion_from_All, All-from_recursion, filter_agree}
 use Rattle.papergrid_tracks.specs.declared.demand.Demand.{Demand}
 use Rattle.papergrid_tracks.specs.Ranges.{end_of, IsInTable}
-use Rattle.papergrid_tracks.specs.Laminar.{longer}
+use Rattle.papergrid_tracks.specs.ForProofs.Settled.{longer}
 use Rattle.papergrid_tracks.specs.Sizes.{by_span}
 use Rattle.papergrid_tracks.proofs.FitBound.{ByRecursion-weaker}
 

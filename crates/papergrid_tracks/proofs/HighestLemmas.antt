@@ -1,15 +1,36 @@
 -- The highest positions are boundaries, and no boundaries that end at the least total are past them.
-use Rattle.std.proofs.Common.{◌≡◌, ℕ, ◌+◌, ◌-◌, ◌≤◌, List, [], ◌∷◌, get_or, ap, arith}
+use Rattle.std.proofs.Common.{◌≡◌, ℕ, ◌+◌, ◌-◌, ◌≤◌, min, List, [], ◌∷◌, get_or, ap, arith}
 use Rattle.std.specs.Prelude.{All, map}
 use Rattle.std.specs.List.{AllByRecursion}
 use Rattle.std.proofs.lemmas.List.Elements.{All-from_recursion, recursion_from_All, All-map}
 use Rattle.papergrid_tracks.specs.declared.demand.Demand.{Demand}
+use Rattle.papergrid_tracks.specs.Problem.{Problem}
 use Rattle.papergrid_tracks.specs.Ranges.{end_of, IsInTable}
-use Rattle.papergrid_tracks.specs.TrackBoundaries.{AreBoundaries}
-use Rattle.papergrid_tracks.specs.LowestPositions.{lowest_position}
-use Rattle.papergrid_tracks.specs.Least.{mirror, lowest_position_back, highest_position}
+use Rattle.papergrid_tracks.specs.Sizes.{sizes_of}
+use Rattle.papergrid_tracks.specs.TrackBoundaries.{AreBoundaries, boundaries_of, net_minimum, sizes_between}
 use Rattle.papergrid_tracks.proofs.BoundaryLemmas.{rises}
-use Rattle.papergrid_tracks.proofs.LowestLemmas.{AreBoundaries-lowest_position, lowest_position-below}
+use Rattle.papergrid_tracks.proofs.LowestLemmas.{AreBoundaries-lowest_position, lowest_position, lowest_position-below}
+
+-- the cell with its range counted from the far end
+abbrev pub mirror : ℕ → Demand → Demand
+mirror n d = record d { start = n - end_of d }
+
+-- the lowest positions of the boundaries, counted from the far end
+abbrev pub lowest_position_back : (Demand → ℕ) → ℕ → List Demand → ℕ → ℕ
+lowest_position_back asks n demands i = lowest_position (λ d. asks (mirror n d)) (map (mirror n) demands) i
+
+-- the highest position of the boundary at i, where the last is at the least total
+abbrev pub highest_position : (Demand → ℕ) → ℕ → List Demand → ℕ → ℕ
+highest_position asks n demands i = lowest_position asks demands n - lowest_position_back asks n demands (n - i)
+
+-- these sizes with each boundary that is past its highest position moved there
+abbrev pub least_sizes : Problem → List ℕ → List ℕ
+least_sizes problem sizes =
+    sizes_between problem.count (λ i. min (boundaries_of sizes i) (highest_position (net_minimum problem.line) problem.count problem.demands i))
+
+-- the sizes by shares, made least: those that are furthest right, as a law says
+abbrev pub least_of : Problem → List ℕ
+least_of problem = least_sizes problem (sizes_of problem)
 
 pub mirrored-twice : (n : ℕ) (d : Demand) → IsInTable n d → mirror n (mirror n d) ≡ d
 mirrored-twice n d cell =

@@ -7,9 +7,22 @@ use Rattle.std.proofs.lemmas.Bool.Decides.{Decides-and, Decides-or, Decides-by_a
 use Rattle.std.proofs.lemmas.List.Elements.{All-contains, All-from_recursion}
 use Rattle.papergrid_tracks.specs.declared.demand.Demand.{Demand}
 use Rattle.papergrid_tracks.specs.Certificates.{lies_in}
-use Rattle.papergrid_tracks.specs.Laminar.{are_disjoint, are_nested, is_laminar, longer}
+use Rattle.papergrid_tracks.specs.ForProofs.Settled.{longer}
 use Rattle.papergrid_tracks.specs.Ranges.{AreDisjoint, AreNested, IsLaminar, LiesIn, SomeCross, end_of}
 use Rattle.papergrid_tracks.proofs.Orders.{Contains-filter, Contains-later, cells_themselves, filter-all}
+
+-- whether two ranges have no track in common
+abbrev pub are_disjoint : Demand → Demand → Bool
+are_disjoint a b = nat_le (end_of a) b.start || nat_le (end_of b) a.start
+
+-- whether one of two ranges is part of the other
+abbrev pub are_nested : Demand → Demand → Bool
+are_nested a b = lies_in a b || lies_in b a
+
+-- any two of them are nested or disjoint
+abbrev pub is_laminar : List Demand → Bool
+is_laminar demands =
+    list_all (λ a. list_all (λ b. are_nested a b || are_disjoint a b) (longer demands)) (longer demands)
 
 Decides-leb : (a b : ℕ) → IsTrue (nat_le a b) ↔ (a ≤ b)
 Decides-leb a b = (leb-true a b, le-leb a b)

@@ -11,13 +11,11 @@ use Rattle.papergrid_tracks.specs.Sizes.{base_size, base_sizes}
 use Rattle.papergrid_tracks.proofs.DrawnLemmas.{inner-drawn}
 use Rattle.papergrid_tracks.proofs.Greatest.{get_or-base_sizes, greatest_minimum-below, holds_alone, minimum-below_greatest}
 use Rattle.papergrid_tracks.proofs.Orders.{Contains-filter}
-use Rattle.papergrid_tracks.specs.TrackBoundaries.{AreBoundaries, net_minimum}
-use Rattle.papergrid_tracks.specs.LowestPositions.{lowest_position}
-use Rattle.papergrid_tracks.specs.Least.{highest_position}
+use Rattle.papergrid_tracks.specs.TrackBoundaries.{AreBoundaries, AreLowest, net_minimum}
 use Rattle.papergrid_tracks.specs.ForProofs.Laid.{AreLaid, with_net_minimum}
 use Rattle.papergrid_tracks.specs.ForProofs.Limits.{AreLowestBoundaries, AreHighestBoundaries}
-use Rattle.papergrid_tracks.proofs.LowestLemmas.{AreBoundaries-lowest_position, lowest_position-below}
-use Rattle.papergrid_tracks.proofs.HighestLemmas.{All-unmapped, AreBoundaries-highest_position, highest_position-above, highest_position-last}
+use Rattle.papergrid_tracks.proofs.LowestLemmas.{lowest_position, AreLowest-lowest_position, one-lowest}
+use Rattle.papergrid_tracks.proofs.HighestLemmas.{highest_position, All-unmapped, AreBoundaries-highest_position, highest_position-above, highest_position-last}
 
 -- a cell that covers one track alone has no line inside of it
 pub inner-alone : (line : ℕ → Bool) (d : Demand) → d.span ≡ 1 → inner_lines line d ≡ 0
@@ -94,11 +92,14 @@ module _ (line drawn : ℕ → Bool) (n limit : ℕ) (demands : List Demand) (ag
             omega arith
       ]
 
+  pub lowest-asked : (boundaries : List ℕ) → AreLowestBoundaries base longer_asking boundaries → AreLowest (net_minimum line) n demands (λ i. get_or boundaries i 0)
+  lowest-asked boundaries is = record {
+    boundaries = AreBoundaries-from_laid (λ i. get_or boundaries i 0) is.laid;
+    below = λ boundary are i l. is.below boundary (AreLaid-from_boundaries boundary are) i (omega arith);
+  }
+
   pub lowest_position-is : (boundaries : List ℕ) → AreLowestBoundaries base longer_asking boundaries → (i : ℕ) → i ≤ n → get_or boundaries i 0 ≡ lowest_position (net_minimum line) demands i
-  lowest_position-is boundaries is i l =
-      let a : get_or boundaries i 0 ≤ lowest_position (net_minimum line) demands i = is.below (lowest_position (net_minimum line) demands) (AreLaid-from_boundaries (lowest_position (net_minimum line) demands) (AreBoundaries-lowest_position (net_minimum line) demands n table)) i (omega arith) in
-      let b : lowest_position (net_minimum line) demands i ≤ get_or boundaries i 0 = lowest_position-below (net_minimum line) demands n table (λ i. get_or boundaries i 0) (AreBoundaries-from_laid (λ i. get_or boundaries i 0) is.laid) i l in
-      omega arith
+  lowest_position-is boundaries is = one-lowest (net_minimum line) n demands (λ i. get_or boundaries i 0) _ (lowest-asked boundaries is) (AreLowest-lowest_position (net_minimum line) demands n table)
 
   pub highest_position-is : (boundaries : List ℕ) (total : ℕ) → total ≡ lowest_position (net_minimum line) demands n → AreHighestBoundaries base longer_asking total boundaries → (i : ℕ) → i ≤ n → get_or boundaries i 0 ≡ highest_position (net_minimum line) n demands i
   highest_position-is boundaries total total_is is i l =

@@ -4,7 +4,7 @@ use Rattle.std.specs.Prelude.{All, None, ◌↔◌}
 use Rattle.std.proofs.lemmas.Grind.{same_number_lists}
 use Rattle.std.proofs.lemmas.List.FromFn.{fill_by_all}
 use Rattle.papergrid_values.specs.declared.position.Position.{Position}
-use Rattle.papergrid_tracks.specs.ForProofs.BySizing.{AreLeastSizes, AreLeastTooLarge}
+use Rattle.papergrid_tracks.proofs.BySizing.{AreLeastSizes, AreLeastTooLarge}
 use Rattle.papergrid_tracks.specs.declared.demand.Demand.{Demand}
 use Rattle.papergrid_tracks.specs.Ranges.{IsInTable, IsLaminar, first_out, position_of}
 use Rattle.papergrid_values.specs.Lines.{all_lines}
@@ -16,14 +16,12 @@ use Rattle.papergrid_tracks.proofs.BoundLemmas.{bound-least_sizes}
 use Rattle.papergrid_tracks.proofs.Upto.{upto, sum-take}
 use Rattle.papergrid_tracks.specs.LeastAnswers.{AreCriticalPath}
 use Rattle.papergrid_tracks.specs.TrackBoundaries.{net_minimum, boundaries_of, AreBoundaries, sizes_between}
-use Rattle.papergrid_tracks.specs.LowestPositions.{lowest_position, least_total}
-use Rattle.papergrid_tracks.specs.Least.{AreFurthestRight, AreLeastBefore, highest_position, least_sizes, least_of}
+use Rattle.papergrid_tracks.specs.Least.{AreFurthestRight, AreLeastBefore}
 use Rattle.papergrid_tracks.proofs.BoundaryLemmas.{AreBoundaries-boundaries_of, AreBoundaries-min, Fits-sizes_between, boundaries-sizes_between, sum-sizes_between, take_whole}
-use Rattle.papergrid_tracks.proofs.LowestLemmas.{AreBoundaries-lowest_position, lowest_position-total, IsLeast-lowest_position}
-use Rattle.papergrid_tracks.specs.CriticalPath.{critical_path}
-use Rattle.papergrid_tracks.proofs.CriticalPathLemmas.{IsCertificate-critical_path}
-use Rattle.papergrid_tracks.proofs.HighestLemmas.{AreBoundaries-highest_position, highest_position-above, highest_position-last}
-use Rattle.papergrid_tracks.proofs.PathBackLemmas.{path_back-is}
+use Rattle.papergrid_tracks.proofs.LowestLemmas.{AreBoundaries-lowest_position, lowest_position, least_total, lowest_position-total, IsLeast-lowest_position}
+use Rattle.papergrid_tracks.proofs.CriticalPathLemmas.{IsCertificate-critical_path, critical_path}
+use Rattle.papergrid_tracks.proofs.HighestLemmas.{highest_position, least_sizes, least_of, AreBoundaries-highest_position, highest_position-above, highest_position-last}
+use Rattle.papergrid_tracks.proofs.PathBackLemmas.{critical_path-is}
 
 module _ (line : ℕ → Bool) (n : ℕ) (demands : List Demand) (sizes : List ℕ) (table : All (IsInTable n) demands) where
   -- the boundaries of the sizes, moved to the highest positions where they are past them
@@ -96,6 +94,16 @@ refused-least problem least is = ((λ large other fits. too_large other large (i
         let all : 18446744073709551616 ≤ sum other + all_lines problem.line problem.count = omega arith in
         all
 
+-- some sizes fit that are not too large exactly where least sizes are not
+pub decides-least : (problem : Problem) (least : List ℕ) → IsLeast problem least → ((sizes : List ℕ) × Fits problem sizes × (total_of problem sizes < 18446744073709551616)) ↔ (total_of problem least < 18446744073709551616)
+decides-least problem least is = ((λ some. small some.0 some.2 (is.least some.0 some.1)), (λ l. (least, is.fits, l)))
+  where
+    small : (sizes : List ℕ) → total_of problem sizes < 18446744073709551616 → sum least ≤ sum sizes → total_of problem least < 18446744073709551616
+    small sizes l le =
+        let l' : sum sizes + all_lines problem.line problem.count < 18446744073709551616 = l in
+        let all : sum least + all_lines problem.line problem.count < 18446744073709551616 = omega arith in
+        all
+
 module _ (problem : Problem) (table : All (IsInTable problem.count) problem.demands) where
   pub IsLeast-least_of : IsLeast problem (least_of problem)
   IsLeast-least_of = IsLeast-least_sizes problem.line problem.count problem.demands (sizes_of problem) table (Fits-sizes_of problem table)
@@ -118,18 +126,6 @@ module _ (problem : Problem) (table : All (IsInTable problem.count) problem.dema
       sum-sizes_between problem.count (lowest_position (net_minimum problem.line) problem.demands) are.rise in
       let c : lowest_position (net_minimum problem.line) problem.demands problem.count ≤ sum (least_of problem) = lowest_position-total problem.line problem.count problem.demands (least_of problem) table IsLeast-least_of.fits in
       omega arith
-
-  pub decides-least_total : ((sizes : List ℕ) × Fits problem sizes × (total_of problem sizes < 18446744073709551616)) ↔ (least_total problem + all_lines problem.line problem.count < 18446744073709551616)
-  decides-least_total = ((λ some. small some.0 some.2 (lowest_position-total problem.line problem.count problem.demands some.0 table some.1)), (λ l. (least_of problem, IsLeast-least_of.fits, least_small l)))
-    where
-      small : (sizes : List ℕ) → total_of problem sizes < 18446744073709551616 → least_total problem ≤ sum sizes → least_total problem + all_lines problem.line problem.count < 18446744073709551616
-      small sizes l le = let l' : sum sizes + all_lines problem.line problem.count < 18446744073709551616 = l in omega arith
-
-      least_small : least_total problem + all_lines problem.line problem.count < 18446744073709551616 → total_of problem (least_of problem) < 18446744073709551616
-      least_small l =
-          let e : sum (least_of problem) ≡ least_total problem = total-least_of in
-          let all : sum (least_of problem) + all_lines problem.line problem.count < 18446744073709551616 = omega arith in
-          all
 
   -- ---- the furthest right
 
@@ -181,12 +177,21 @@ module _ (problem : Problem) (table : All (IsInTable problem.count) problem.dema
           omega arith)
 
   -- the sum of any least sizes is the least total
-  least-total : (sizes : List ℕ) → IsLeast problem sizes → sum sizes ≡ least_total problem
+  pub least-total : (sizes : List ℕ) → IsLeast problem sizes → sum sizes ≡ least_total problem
   least-total sizes least =
       let a : sum sizes ≤ sum (least_of problem) = least.least (least_of problem) IsLeast-least_of.fits in
       let b : sum (least_of problem) ≤ sum sizes = IsLeast-least_of.least sizes least.fits in
       let c : sum (least_of problem) ≡ least_total problem = total-least_of in
       omega arith
+
+  -- so where some are not too large, none are
+  pub fits-least : total_of problem (least_of problem) < 18446744073709551616 → (sizes : List ℕ) → IsLeast problem sizes → total_of problem sizes < 18446744073709551616
+  fits-least small sizes least =
+      let a : sum sizes ≡ least_total problem = least-total sizes least in
+      let b : sum (least_of problem) ≡ least_total problem = total-least_of in
+      let c : sum (least_of problem) + all_lines problem.line problem.count < 18446744073709551616 = small in
+      let d : sum sizes + all_lines problem.line problem.count < 18446744073709551616 = omega arith in
+      d
 
   -- and the critical path certifies them
   pub IsCertificate-least : (sizes : List ℕ) → IsLeast problem sizes → IsCertificate problem sizes (critical_path problem)
@@ -206,23 +211,16 @@ module _ (problem : Problem) (table : All (IsInTable problem.count) problem.dema
       bound = λ i l. bound-least_of i (let one_each : length (least_of problem) ≡ problem.count = IsLeast-least_of.fits.one_each in omega arith);
     }
 
-    pub AreCriticalPath-critical_path : total_of problem (least_of problem) < 18446744073709551616 → AreCriticalPath problem (map position_of (critical_path problem))
+    pub AreCriticalPath-critical_path : ((sizes : List ℕ) → IsLeast problem sizes → total_of problem sizes < 18446744073709551616) → AreCriticalPath problem (map position_of (critical_path problem))
     AreCriticalPath-critical_path small = record {
       table = table;
       none_out = inside;
       cells = critical_path problem;
       exact = refl;
-      path = (path_back-is problem table (critical_path problem)).1 refl;
-      total = λ sizes least. fits sizes (least-total sizes least);
+      path = (critical_path-is problem table (critical_path problem)).1 refl;
+      total = small;
       certificate = IsCertificate-least;
     }
-      where
-        fits : (sizes : List ℕ) → sum sizes ≡ least_total problem → total_of problem sizes < 18446744073709551616
-        fits sizes e =
-            let a : sum (least_of problem) ≡ least_total problem = total-least_of in
-            let b : sum (least_of problem) + all_lines problem.line problem.count < 18446744073709551616 = small in
-            let c : sum sizes + all_lines problem.line problem.count < 18446744073709551616 = omega arith in
-            c
 
     pub AreLeastTooLarge-by_all : ((other : List ℕ) → Fits problem other → IsTooLarge problem other) → AreLeastTooLarge problem
     AreLeastTooLarge-by_all each = record {
@@ -243,4 +241,4 @@ pub past-least : (problem : Problem) → AreLeastTooLarge problem → IsTooLarge
 past-least problem are = are.others_too_large tt (least_of problem) (IsLeast-least_of problem are.table).fits
 
 pub exact-critical_path : (problem : Problem) (positions : List Position) → AreCriticalPath problem positions → positions ≡ map position_of (critical_path problem)
-exact-critical_path problem positions are = are.exact ∙ ap (map position_of) ((path_back-is problem are.table are.cells).0 are.path)
+exact-critical_path problem positions are = are.exact ∙ ap (map position_of) ((critical_path-is problem are.table are.cells).0 are.path)

@@ -3,6 +3,7 @@ pub mod AnswerLemmas
 pub mod BackLemmas
 pub mod BoundLemmas
 pub mod BoundaryLemmas
+pub mod BySizing
 pub mod CandidateLemmas
 pub mod CertificateLemmas
 pub mod Certified

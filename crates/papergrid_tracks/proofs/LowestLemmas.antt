@@ -1,16 +1,34 @@
--- The lowest positions are boundaries, and no boundaries are below them.
+-- The lowest positions of the boundaries, each as far to the left as the cells let it be: they are boundaries, and no boundaries are below them.
 use Rattle.std.proofs.Common.{◌≡◌, ℕ, take, sum, zero, suc, ◌+◌, ◌≤◌, max, Bool, true, ◌==◌, inl, inr, List, [], ◌∷◌, get_or, map, ◌-◌, refl, sym, ap, ◌∙◌, arith, add-suc, add-zero, le-leb, eqb-true, eq-eqb}
-use Rattle.std.specs.Prelude.{All, filter}
+use Rattle.std.specs.Prelude.{All, filter, if◌then◌else◌, nat_le}
 use Rattle.std.specs.List.{AllByRecursion}
 use Rattle.std.proofs.lemmas.Bool.{cases_Bool, cases_lt, true≢false, lt-leb}
 use Rattle.std.proofs.lemmas.List.Elements.{All-from_recursion, recursion_from_All}
 use Rattle.papergrid_tracks.specs.declared.demand.Demand.{Demand}
-use Rattle.papergrid_tracks.specs.Problem.{problem_of_demands}
+use Rattle.papergrid_tracks.specs.Problem.{Problem, problem_of_demands}
 use Rattle.papergrid_tracks.specs.Ranges.{end_of, IsInTable}
 use Rattle.papergrid_tracks.specs.Fits.{greatest, Fits, IsLeast}
 use Rattle.papergrid_tracks.proofs.BoundaryLemmas.{take_whole, AreBoundaries-boundaries_of, Fits-sizes_between, sum-sizes_between}
-use Rattle.papergrid_tracks.specs.TrackBoundaries.{AreBoundaries, net_minimum, boundaries_of, sizes_between}
-use Rattle.papergrid_tracks.specs.LowestPositions.{pushed_lower_bound, lowest_position_to, lowest_position}
+use Rattle.papergrid_tracks.specs.TrackBoundaries.{AreBoundaries, AreLowest, net_minimum, boundaries_of, sizes_between}
+
+-- the lower bound that the cells whose ranges end at i set to its boundary
+abbrev pub pushed_lower_bound : (Demand → ℕ) → List Demand → (ℕ → ℕ) → ℕ → ℕ
+pushed_lower_bound asks demands boundary i = greatest (map (λ d. boundary d.start + asks d) (filter (λ d. end_of d == i) demands))
+
+-- the lowest positions of the boundaries up to k, and past k the one at k
+abbrev pub lowest_position_to : (Demand → ℕ) → List Demand → ℕ → ℕ → ℕ
+lowest_position_to asks demands zero i = 0
+lowest_position_to asks demands (suc k) i =
+    if nat_le i k then lowest_position_to asks demands k i
+    else max (lowest_position_to asks demands k k) (pushed_lower_bound asks demands (lowest_position_to asks demands k) (suc k))
+
+-- the lowest position of the boundary at i
+abbrev pub lowest_position : (Demand → ℕ) → List Demand → ℕ → ℕ
+lowest_position asks demands i = lowest_position_to asks demands i i
+
+-- the least total: the lowest position of the boundary at the end
+abbrev pub least_total : Problem → ℕ
+least_total problem = lowest_position (net_minimum problem.line) problem.demands problem.count
 
 -- the greatest over the cells that pass a test
 abbrev pub greatest_by : (Demand → ℕ) → (Demand → Bool) → List Demand → ℕ
@@ -127,21 +145,35 @@ module _ (asks : Demand → ℕ) (ds : List Demand) where
     pub lowest_position-below : (boundary : ℕ → ℕ) → AreBoundaries asks n ds boundary → (i : ℕ) → i ≤ n → lowest_position asks ds i ≤ boundary i
     lowest_position-below boundary are i le = below_to boundary are i le i (omega arith)
 
--- the least total of any sizes that fit
-pub lowest_position-total : (line : ℕ → Bool) (n : ℕ) (demands : List Demand) (sizes : List ℕ) → All (IsInTable n) demands → Fits (problem_of_demands line n demands) sizes → lowest_position (net_minimum line) demands n ≤ sum sizes
-lowest_position-total line n demands sizes table fits =
-    let a : lowest_position (net_minimum line) demands n ≤ boundaries_of sizes n =
-    lowest_position-below (net_minimum line) demands n table (boundaries_of sizes) (AreBoundaries-boundaries_of line n demands sizes fits) n (omega arith) in
-    let b : sum (take n sizes) ≡ sum sizes = ap sum (take_whole n sizes fits.one_each) in
+    pub AreLowest-lowest_position : AreLowest asks n ds (lowest_position asks ds)
+    AreLowest-lowest_position = record { boundaries = AreBoundaries-lowest_position; below = lowest_position-below }
+
+-- there are no two choices of lowest positions
+pub one-lowest : (asks : Demand → ℕ) (n : ℕ) (ds : List Demand) (f g : ℕ → ℕ) → AreLowest asks n ds f → AreLowest asks n ds g → (i : ℕ) → i ≤ n → f i ≡ g i
+one-lowest asks n ds f g is also i l =
+    let a : f i ≤ g i = is.below g also.boundaries i l in
+    let b : g i ≤ f i = also.below f is.boundaries i l in
     omega arith
 
+-- no sizes that fit have a total below the last of the lowest positions, and those between them are least
+module _ (line : ℕ → Bool) (n : ℕ) (demands : List Demand) (lowest : ℕ → ℕ) (are : AreLowest (net_minimum line) n demands lowest) where
+  pub lowest-total : (sizes : List ℕ) → Fits (problem_of_demands line n demands) sizes → lowest n ≤ sum sizes
+  lowest-total sizes fits =
+      let a : lowest n ≤ boundaries_of sizes n = are.below (boundaries_of sizes) (AreBoundaries-boundaries_of line n demands sizes fits) n (omega arith) in
+      let b : sum (take n sizes) ≡ sum sizes = ap sum (take_whole n sizes fits.one_each) in
+      omega arith
+
+  pub IsLeast-lowest : All (IsInTable n) demands → IsLeast (problem_of_demands line n demands) (sizes_between n lowest)
+  IsLeast-lowest table = record {
+    fits = Fits-sizes_between line n demands lowest table are.boundaries;
+    least = λ other fits.
+        let a : lowest n ≤ sum other = lowest-total other fits in
+        let b : sum (sizes_between n lowest) + lowest 0 ≡ lowest n = sum-sizes_between n lowest are.boundaries.rise in
+        omega arith;
+  }
+
+pub lowest_position-total : (line : ℕ → Bool) (n : ℕ) (demands : List Demand) (sizes : List ℕ) → All (IsInTable n) demands → Fits (problem_of_demands line n demands) sizes → lowest_position (net_minimum line) demands n ≤ sum sizes
+lowest_position-total line n demands sizes table fits = lowest-total line n demands _ (AreLowest-lowest_position (net_minimum line) demands n table) sizes fits
+
 pub IsLeast-lowest_position : (line : ℕ → Bool) (n : ℕ) (demands : List Demand) → All (IsInTable n) demands → IsLeast (problem_of_demands line n demands) (sizes_between n (lowest_position (net_minimum line) demands))
-IsLeast-lowest_position line n demands table =
-    let are : AreBoundaries (net_minimum line) n demands (lowest_position (net_minimum line) demands) = AreBoundaries-lowest_position (net_minimum line) demands n table in
-    record {
-      fits = Fits-sizes_between line n demands (lowest_position (net_minimum line) demands) table are;
-      least = λ other fits.
-          let a : lowest_position (net_minimum line) demands n ≤ sum other = lowest_position-total line n demands other table fits in
-          let b : sum (sizes_between n (lowest_position (net_minimum line) demands)) + lowest_position (net_minimum line) demands 0 ≡ lowest_position (net_minimum line) demands n = sum-sizes_between n (lowest_position (net_minimum line) demands) are.rise in
-          omega arith;
-    }
+IsLeast-lowest_position line n demands table = IsLeast-lowest line n demands _ (AreLowest-lowest_position (net_minimum line) demands n table) table

@@ -4,7 +4,7 @@ use Rattle.std.specs.Prelude.{Option, Some, None, is_some, All, if◌then◌else
 use Rattle.std.specs.List.{list_any}
 use Rattle.std.proofs.lemmas.Bool.{false≢true, cases_Bool, ltb-false, leb-true}
 use Rattle.std.proofs.lemmas.List.Elements.{All-nil, All-cons, All-head, All-tail}
-use Rattle.papergrid_tracks.specs.ForProofs.BySizing.{AreSizesTooLarge}
+use Rattle.papergrid_tracks.proofs.BySizing.{AreSizesTooLarge}
 use Rattle.papergrid_tracks.specs.Problem.{problem_of_demands}
 use Rattle.papergrid_values.specs.Lines.{all_lines}
 use Rattle.papergrid_tracks.specs.declared.demand.Demand.{Demand}

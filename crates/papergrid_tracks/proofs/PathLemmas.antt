@@ -15,12 +15,12 @@ use Rattle.papergrid_tracks.proofs.Counting.{find-all}
 use Rattle.papergrid_tracks.proofs.DrawnLemmas.{inner-drawn}
 use Rattle.papergrid_tracks.proofs.Greatest.{holds_alone}
 use Rattle.papergrid_tracks.proofs.DemandLemmas.{table-kept}
-use Rattle.papergrid_tracks.specs.LowestPositions.{lowest_position}
 use Rattle.papergrid_tracks.specs.TrackBoundaries.{AreBoundaries, net_minimum}
-use Rattle.papergrid_tracks.specs.CriticalPath.{critical_path, tight_cells as path}
-use Rattle.papergrid_tracks.specs.ForProofs.Followed.{followed_cells, kept_longer, kept_single, is_tight_by}
+use Rattle.papergrid_tracks.specs.CriticalPath.{is_tight}
+use Rattle.papergrid_tracks.proofs.CriticalPathLemmas.{critical_path, tight_cells as path}
+use Rattle.papergrid_tracks.specs.ForProofs.Followed.{followed_cells, kept_longer, kept_single}
 use Rattle.papergrid_tracks.specs.ForProofs.LeastSettled.{AreLowestPositions}
-use Rattle.papergrid_tracks.proofs.LowestLemmas.{AreBoundaries-lowest_position}
+use Rattle.papergrid_tracks.proofs.LowestLemmas.{lowest_position, AreBoundaries-lowest_position, AreLowest-lowest_position, one-lowest}
 use Rattle.papergrid_tracks.proofs.PermutedLemmas.{table-wider}
 use Rattle.papergrid_tracks.proofs.TightLemmas.{followed-is}
 
@@ -60,6 +60,9 @@ module _ (problem : Problem) (kept : Demands) (is : AreGathered problem.count ke
   abbrev boundary : ℕ → ℕ
   boundary i = get_or boundaries i 0
 
+  boundary-at : (i : ℕ) → i ≤ problem.count → boundary i ≡ lowest_position (net_minimum problem.line) problem.demands i
+  boundary-at = one-lowest (net_minimum problem.line) problem.count problem.demands boundary _ are.lowest (AreLowest-lowest_position (net_minimum problem.line) problem.demands problem.count are.table)
+
   exact : kept.rest.items ≡ rest_of is.limit problem.demands
   exact = is.held.exact small
 
@@ -88,8 +91,8 @@ module _ (problem : Problem) (kept : Demands) (is : AreGathered problem.count ke
       at d cell apart =
           let within : end_of d ≤ problem.count = cell.ends_within in
           let inner : inner_lines drawn d ≡ inner_lines problem.line d = inner-drawn drawn problem.line problem.count are.drawn d cell in
-          let a : boundary d.start ≡ lowest_position (net_minimum problem.line) problem.demands d.start = are.boundary_at d.start (omega arith) in
-          let b : boundary (end_of d) ≡ lowest_position (net_minimum problem.line) problem.demands (end_of d) = are.boundary_at (end_of d) within in
+          let a : boundary d.start ≡ lowest_position (net_minimum problem.line) problem.demands d.start = boundary-at d.start (omega arith) in
+          let b : boundary (end_of d) ≡ lowest_position (net_minimum problem.line) problem.demands (end_of d) = boundary-at (end_of d) within in
           omega arith
 
   pub alone-boundaries : (i : ℕ) → i + 1 < length boundaries → (kept_single kept.single_span.items i).start ≤ i
@@ -101,10 +104,10 @@ module _ (problem : Problem) (kept : Demands) (is : AreGathered problem.count ke
       omega arith
 
   module _ (tight_cells : List (Option Demand)) (same : length tight_cells ≡ length boundaries)
-      (first : (i : ℕ) → i < length tight_cells → get_or tight_cells i None ≡ find (is_tight_by (net_minimum drawn) boundary i) kept.rest.items) where
+      (first : (i : ℕ) → i < length tight_cells → get_or tight_cells i None ≡ find (is_tight (net_minimum drawn) boundary i) kept.rest.items) where
     pub starts-boundaries : (i : ℕ) (d : Demand) → get_or tight_cells i None ≡ Some d → d.start < length boundaries
     starts-boundaries i d found = elim (cases_lt i (length tight_cells)) [
-      | inl l ↦ within (find-all (Contains kept.rest.items) (is_tight_by (net_minimum drawn) boundary i) kept.rest.items d (recursion_from_All (Contains kept.rest.items) kept.rest.items (All-contains_itself kept.rest.items)) (sym (first i l) ∙ found)).1
+      | inl l ↦ within (find-all (Contains kept.rest.items) (is_tight (net_minimum drawn) boundary i) kept.rest.items d (recursion_from_All (Contains kept.rest.items) kept.rest.items (All-contains_itself kept.rest.items)) (sym (first i l) ∙ found)).1
       | inr past ↦ absurd (none_some d (sym (get_or_past tight_cells i None past) ∙ found))
     ]
       where
@@ -121,6 +124,6 @@ module _ (problem : Problem) (kept : Demands) (is : AreGathered problem.count ke
         let last : length boundaries - 1 ≡ problem.count = omega arith in
         ap (λ k. reverse (map position_of (followed_cells boundary (kept_single kept.single_span.items) (kept_longer tight_cells) k k))) last
         ∙ ap (λ ds. reverse (map position_of ds))
-        (followed-is problem.line drawn problem.count is.limit problem.demands are.drawn are.table is.below is.from_limit in_order boundary are.boundary_at (kept_single kept.single_span.items) (is.held.single_span small)
-        (kept_longer tight_cells) (λ i l. first i (omega arith) ∙ ap (find (is_tight_by (net_minimum drawn) boundary i)) exact) problem.count problem.count (omega arith))
+        (followed-is problem.line drawn problem.count is.limit problem.demands are.drawn are.table is.below is.from_limit in_order boundary boundary-at (kept_single kept.single_span.items) (is.held.single_span small)
+        (kept_longer tight_cells) (λ i l. first i (omega arith) ∙ ap (find (is_tight (net_minimum drawn) boundary i)) exact) problem.count problem.count (omega arith))
         ∙ reverse-positions (path (net_minimum problem.line) problem.demands problem.count problem.count)

@@ -1,7 +1,7 @@
 -- What kept cells come to, once the lines are drawn, the base is written and the longer cells are sorted.
 use Rattle.std.proofs.Common.{◌≡◌, ◌∙◌, ◌+◌, ◌<◌, ℕ, Bool, List, ap, ap₂, length, fold, subst, sum, sym}
 use Rattle.std.specs.Prelude.{All}
-use Rattle.papergrid_tracks.specs.ForProofs.BySizing.{AreSizesTooLarge}
+use Rattle.papergrid_tracks.proofs.BySizing.{AreSizesTooLarge}
 use Rattle.papergrid_tracks.specs.declared.demand.Demand.{Demand}
 use Rattle.papergrid_tracks.specs.declared.demands.Demands.{Demands}
 use Rattle.papergrid_tracks.specs.Certificates.{growing_demands}

@@ -4,7 +4,7 @@ use Rattle.std.specs.Prelude.{All, Contains, None}
 use Rattle.std.specs.List.{AllByRecursion}
 use Rattle.std.proofs.lemmas.Bool.{cases_lt}
 use Rattle.std.proofs.lemmas.List.Elements.{All-contains, All-weaker, All-from_recursion, recursion_from_All}
-use Rattle.papergrid_tracks.specs.ForProofs.BySizing.{AreSizes, AreSizesTooLarge}
+use Rattle.papergrid_tracks.proofs.BySizing.{AreSizes, AreSizesTooLarge}
 use Rattle.papergrid_tracks.specs.declared.demand.Demand.{Demand}
 use Rattle.papergrid_tracks.specs.Problem.{Problem, total_of}
 use Rattle.papergrid_values.specs.Lines.{all_lines}

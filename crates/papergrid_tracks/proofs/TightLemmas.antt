@@ -13,18 +13,25 @@ use Rattle.papergrid_tracks.proofs.Greatest.{get_or-base_sizes, length-base_size
 use Rattle.papergrid_tracks.proofs.Orders.{filter-all}
 use Rattle.papergrid_tracks.proofs.DemandLemmas.{exact_single-first, minimum-first_greatest}
 use Rattle.papergrid_tracks.specs.TrackBoundaries.{net_minimum}
-use Rattle.papergrid_tracks.specs.LowestPositions.{lowest_position}
-use Rattle.papergrid_tracks.specs.CriticalPath.{tight_cell, tight_cells, is_tight, with_earlier}
-use Rattle.papergrid_tracks.specs.ForProofs.Followed.{earlier_cell, followed_cells, longer_tight_cell, with_minimum, is_tight_by, single_tight_cell}
+use Rattle.papergrid_tracks.specs.CriticalPath.{is_tight}
+use Rattle.papergrid_tracks.specs.ForProofs.Followed.{earlier_cell, followed_cells, with_earlier, with_minimum}
 use Rattle.papergrid_tracks.specs.ForProofs.Laid.{AreLaid}
 use Rattle.papergrid_tracks.proofs.EarlierLemmas.{first-in_order}
-use Rattle.papergrid_tracks.proofs.LowestLemmas.{AreBoundaries-lowest_position, lowest_position-rises}
+use Rattle.papergrid_tracks.proofs.LowestLemmas.{AreBoundaries-lowest_position, lowest_position, lowest_position-rises}
 use Rattle.papergrid_tracks.proofs.FollowedLemmas.{followed-even, followed-past}
-use Rattle.papergrid_tracks.proofs.CriticalPathLemmas.{tight_cell-is_tight}
+use Rattle.papergrid_tracks.proofs.CriticalPathLemmas.{tight_cell, tight_cell-is_tight, tight_cells}
 use Rattle.papergrid_tracks.proofs.LeastDemandLemmas.{AreLaid-from_boundaries, inner-alone, longer_asking}
 
+-- the first cell that covers one track alone and is tight at the boundary at i
+abbrev pub single_tight_cell : (Demand → ℕ) → List Demand → ℕ → Option Demand
+single_tight_cell asks demands i = find (λ d. d.span == 1 && is_tight asks (lowest_position asks demands) i d) demands
+
+-- the first cell of a longer range that does so
+abbrev pub longer_tight_cell : (Demand → ℕ) → List Demand → ℕ → Option Demand
+longer_tight_cell asks demands i = find (λ d. nat_lt 1 d.span && is_tight asks (lowest_position asks demands) i d) demands
+
 -- two tests that agree find the same
-find-agree : (p q : Demand → Bool) (ds : List Demand) → All (λ d. p d ≡ q d) ds → find p ds ≡ find q ds
+pub find-agree : (p q : Demand → Bool) (ds : List Demand) → All (λ d. p d ≡ q d) ds → find p ds ≡ find q ds
 find-agree p q [] same = refl
 find-agree p q (d ∷ ds) same =
     let here : p d ≡ q d = All-head (λ d. p d ≡ q d) d ds same in
@@ -69,7 +76,7 @@ module _ (line drawn : ℕ → Bool) (n limit : ℕ) (demands : List Demand) (ag
       omega arith
 
   -- a cell that covers j alone and is tight at the next boundary needs what lies between the two
-  alone : (j : ℕ) (d : Demand) → d.span ≡ 1 → is_tight (net_minimum line) demands (suc j) d ≡ true → (d.start ≡ j) × (top j + d.minimum ≡ top (suc j))
+  alone : (j : ℕ) (d : Demand) → d.span ≡ 1 → is_tight (net_minimum line) top (suc j) d ≡ true → (d.start ≡ j) × (top j + d.minimum ≡ top (suc j))
   alone j d one pushed =
       let parts : (eqb (end_of d) (suc j) ≡ true) × (eqb (top d.start + net_minimum line d) (top (suc j)) ≡ true) = and_parts (eqb (end_of d) (suc j)) (eqb (top d.start + net_minimum line d) (top (suc j))) pushed in
       let ends : end_of d ≡ suc j = eqb-true _ _ parts.0 in
@@ -81,14 +88,14 @@ module _ (line drawn : ℕ → Bool) (n limit : ℕ) (demands : List Demand) (ag
 
   no_single : (j : ℕ) → j < n → top j + base_size demands j ≢ top (suc j) → single_tight_cell (net_minimum line) demands (suc j) ≡ None
   no_single j l ne =
-      find-none (λ d. d.span == 1 && is_tight (net_minimum line) demands (suc j) d) demands
-      (recursion_from_All (λ d. (d.span == 1 && is_tight (net_minimum line) demands (suc j) d) ≡ false) demands (λ k d l'. at (get_or demands k d) (Contains-get_or demands k d l')))
+      find-none (λ d. d.span == 1 && is_tight (net_minimum line) top (suc j) d) demands
+      (recursion_from_All (λ d. (d.span == 1 && is_tight (net_minimum line) top (suc j) d) ≡ false) demands (λ k d l'. at (get_or demands k d) (Contains-get_or demands k d l')))
     where
-      at : (d : Demand) → Contains demands d → (d.span == 1 && is_tight (net_minimum line) demands (suc j) d) ≡ false
-      at d listed = elim (cases_Bool (d.span == 1 && is_tight (net_minimum line) demands (suc j) d)) [
+      at : (d : Demand) → Contains demands d → (d.span == 1 && is_tight (net_minimum line) top (suc j) d) ≡ false
+      at d listed = elim (cases_Bool (d.span == 1 && is_tight (net_minimum line) top (suc j) d)) [
         | inr f ↦ f
         | inl t ↦
-            let parts : (eqb d.span 1 ≡ true) × (is_tight (net_minimum line) demands (suc j) d ≡ true) = and_parts (eqb d.span 1) (is_tight (net_minimum line) demands (suc j) d) t in
+            let parts : (eqb d.span 1 ≡ true) × (is_tight (net_minimum line) top (suc j) d ≡ true) = and_parts (eqb d.span 1) (is_tight (net_minimum line) top (suc j) d) t in
             let one : d.span ≡ 1 = eqb-true d.span 1 parts.0 in
             let known : (d.start ≡ j) × (top j + d.minimum ≡ top (suc j)) = alone j d one parts.1 in
             let minimum : d.minimum ≤ base_size demands j = minimum-below_greatest (λ c. c.span == 1 && c.start == j) demands d listed (and_from _ _ parts.0 (eq-eqb d.start j known.0)) in
@@ -100,11 +107,11 @@ module _ (line drawn : ℕ → Bool) (n limit : ℕ) (demands : List Demand) (ag
   single : (j : ℕ) → j < n → top j < top (suc j) → top j + base_size demands j ≡ top (suc j) → single_tight_cell (net_minimum line) demands (suc j) ≡ Some (first_greatest j demands)
   single j l past e =
       let base_is : get_or (base_sizes n demands) j 0 ≡ base_size demands j = get_or-base_sizes n demands j l in
-      find-agree (λ d. d.span == 1 && is_tight (net_minimum line) demands (suc j) d) (λ d. d.span == 1 && d.start == j && d.minimum == get_or (base_sizes n demands) j 0) demands
+      find-agree (λ d. d.span == 1 && is_tight (net_minimum line) top (suc j) d) (λ d. d.span == 1 && d.start == j && d.minimum == get_or (base_sizes n demands) j 0) demands
       (λ k d l'. at (get_or demands k d) (table k d l'))
       ∙ exact_single-first j demands (base_sizes n demands) base_is (let some : get_or (base_sizes n demands) j 0 ≢ 0 = omega arith in some)
     where
-      at : (d : Demand) → IsInTable n d → (d.span == 1 && is_tight (net_minimum line) demands (suc j) d) ≡ (d.span == 1 && d.start == j && d.minimum == get_or (base_sizes n demands) j 0)
+      at : (d : Demand) → IsInTable n d → (d.span == 1 && is_tight (net_minimum line) top (suc j) d) ≡ (d.span == 1 && d.start == j && d.minimum == get_or (base_sizes n demands) j 0)
       at d cell = elim (cases_eq d.span 1) [
         | inr ne ↦ rw (ne_eqb d.span 1 ne) refl
         | inl one ↦ elim (cases_eq d.start j) [
@@ -129,7 +136,7 @@ module _ (line drawn : ℕ → Bool) (n limit : ℕ) (demands : List Demand) (ag
 
   -- where no such cell pushes, the first that does is among the others
   module _ (boundary : ℕ → ℕ) (boundaries_are : (i : ℕ) → i ≤ n → boundary i ≡ top i) where
-    same_test : (i : ℕ) → i ≤ n → (d : Demand) → IsInTable n d → is_tight (net_minimum line) demands i d ≡ is_tight_by (net_minimum drawn) boundary i d
+    same_test : (i : ℕ) → i ≤ n → (d : Demand) → IsInTable n d → is_tight (net_minimum line) top i d ≡ is_tight (net_minimum drawn) boundary i d
     same_test i l d cell = elim (cases_eq (end_of d) i) [
       | inr ne ↦ rw (ne_eqb (end_of d) i ne) refl
       | inl ends ↦
@@ -141,20 +148,20 @@ module _ (line drawn : ℕ → Bool) (n limit : ℕ) (demands : List Demand) (ag
           rw (eq-eqb (end_of d) i ends, sum, b) refl
     ]
 
-    among_others : (i : ℕ) → i ≤ n → longer_tight_cell (net_minimum line) demands i ≡ find (is_tight_by (net_minimum drawn) boundary i) (rest_of limit demands)
+    among_others : (i : ℕ) → i ≤ n → longer_tight_cell (net_minimum line) demands i ≡ find (is_tight (net_minimum drawn) boundary i) (rest_of limit demands)
     among_others i l =
-        find-kept (λ d. nat_lt 1 d.span && is_tight (net_minimum line) demands i d) (λ d. not (is_single limit d)) demands (λ k d l'. kept (get_or demands k d))
-        ∙ find-agree (λ d. nat_lt 1 d.span && is_tight (net_minimum line) demands i d) (is_tight_by (net_minimum drawn) boundary i) (rest_of limit demands)
+        find-kept (λ d. nat_lt 1 d.span && is_tight (net_minimum line) top i d) (λ d. not (is_single limit d)) demands (λ k d l'. kept (get_or demands k d))
+        ∙ find-agree (λ d. nat_lt 1 d.span && is_tight (net_minimum line) top i d) (is_tight (net_minimum drawn) boundary i) (rest_of limit demands)
         (λ k d l'. listed (get_or (rest_of limit demands) k d) (All-from_recursion (λ d. (not (is_single limit d) ≡ true) × IsInTable n d) (rest_of limit demands)
         (filter-all (IsInTable n) (λ d. not (is_single limit d)) demands (recursion_from_All (IsInTable n) demands table)) k d l'))
       where
-        kept : (d : Demand) → (nat_lt 1 d.span && is_tight (net_minimum line) demands i d) ≡ true → not (is_single limit d) ≡ true
+        kept : (d : Demand) → (nat_lt 1 d.span && is_tight (net_minimum line) top i d) ≡ true → not (is_single limit d) ≡ true
         kept d t =
-            let long : 1 < d.span = ltb-true 1 d.span (and_parts (nat_lt 1 d.span) (is_tight (net_minimum line) demands i d) t).0 in
+            let long : 1 < d.span = ltb-true 1 d.span (and_parts (nat_lt 1 d.span) (is_tight (net_minimum line) top i d) t).0 in
             let ne : d.span ≢ 1 = omega arith in
             rw (ne_eqb d.span 1 ne) refl
 
-        at : (d : Demand) → IsInTable n d → not (is_single limit d) ≡ true → (nat_lt 1 d.span && is_tight (net_minimum line) demands i d) ≡ is_tight_by (net_minimum drawn) boundary i d
+        at : (d : Demand) → IsInTable n d → not (is_single limit d) ≡ true → (nat_lt 1 d.span && is_tight (net_minimum line) top i d) ≡ is_tight (net_minimum drawn) boundary i d
         at d cell passes = elim (cases_eq d.span 1) [
           | inl one ↦
               let some : 1 ≤ d.span = cell.covers_one in
@@ -168,11 +175,11 @@ module _ (line drawn : ℕ → Bool) (n limit : ℕ) (demands : List Demand) (ag
               rw (lt-ltb 1 d.span long) (same_test i l d cell)
         ]
 
-        listed : (d : Demand) → (not (is_single limit d) ≡ true) × IsInTable n d → (nat_lt 1 d.span && is_tight (net_minimum line) demands i d) ≡ is_tight_by (net_minimum drawn) boundary i d
+        listed : (d : Demand) → (not (is_single limit d) ≡ true) × IsInTable n d → (nat_lt 1 d.span && is_tight (net_minimum line) top i d) ≡ is_tight (net_minimum drawn) boundary i d
         listed d known = at d known.1 known.0
 
     module _ (single_span : ℕ → Demand) (single_span_are : (i : ℕ) → i < limit → single_span i ≡ first_greatest i demands)
-        (longer : ℕ → Option Demand) (longer_are : (i : ℕ) → i ≤ n → longer i ≡ find (is_tight_by (net_minimum drawn) boundary i) (rest_of limit demands)) where
+        (longer : ℕ → Option Demand) (longer_are : (i : ℕ) → i ≤ n → longer i ≡ find (is_tight (net_minimum drawn) boundary i) (rest_of limit demands)) where
       tight_cells-even : (steps j : ℕ) → top (suc j) ≡ top j → tight_cells (net_minimum line) demands (suc steps) (suc j) ≡ tight_cells (net_minimum line) demands steps j
       tight_cells-even steps j same =
           let e : suc j - 1 ≡ j = omega arith in
@@ -207,7 +214,7 @@ module _ (line drawn : ℕ → Bool) (n limit : ℕ) (demands : List Demand) (ag
       tight_cell-kept : (j : ℕ) → j < n → top j < top (suc j) → earlier_cell (with_minimum (boundary (suc j) - boundary (suc j - 1)) (single_span (suc j - 1))) (longer (suc j)) ≡ tight_cell (net_minimum line) demands (suc j)
       tight_cell-kept j l past =
           ap₂ earlier_cell (single-kept j l past) (longer_are (suc j) l ∙ sym (among_others (suc j) l))
-          ∙ first-in_order (is_tight (net_minimum line) demands (suc j)) demands (λ k d l'. (table k d l').covers_one) in_order
+          ∙ first-in_order (is_tight (net_minimum line) top (suc j)) demands (λ k d l'. (table k d l').covers_one) in_order
 
       pub followed-is : (steps i : ℕ) → i ≤ n → followed_cells boundary single_span longer steps i ≡ tight_cells (net_minimum line) demands steps i
       followed-is zero i l = refl

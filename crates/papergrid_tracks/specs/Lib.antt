@@ -3,10 +3,8 @@ pub mod Certificates
 pub mod CriticalPath
 pub mod Crossing
 pub mod Fits
-pub mod Laminar
 pub mod Least
 pub mod LeastAnswers
-pub mod LowestPositions
 pub mod Problem
 pub mod Ranges
 pub mod Rows

@@ -17,6 +17,11 @@ pub record AreBoundaries (asks : Demand → ℕ) (n : ℕ) (demands : List Deman
   pub rise : (i : ℕ) → i < n → boundary i ≤ boundary (i + 1)
   pub apart : All (λ d. boundary d.start + asks d ≤ boundary (end_of d)) demands
 
+-- the lowest positions of the boundaries: they are boundaries, and no boundaries are below them
+pub record AreLowest (asks : Demand → ℕ) (n : ℕ) (demands : List Demand) (lowest : ℕ → ℕ) : Type 0 where
+  pub boundaries : AreBoundaries asks n demands lowest
+  pub below : (boundary : ℕ → ℕ) → AreBoundaries asks n demands boundary → (i : ℕ) → i ≤ n → lowest i ≤ boundary i
+
 -- the sizes between the boundaries
 abbrev pub sizes_between : ℕ → (ℕ → ℕ) → List ℕ
 sizes_between n boundary = map (λ i. boundary (i + 1) - boundary i) (range_with_len 0 n)

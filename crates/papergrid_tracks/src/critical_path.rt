@@ -5,7 +5,8 @@ ghost use Rattle.papergrid_tracks.specs.ForProofs.Settled.{line_at};
 ghost use Rattle.papergrid_tracks.specs.Ranges.{IsInTable, end_of, position_of};
 ghost use Rattle.papergrid_tracks.specs.declared.demand.Demand.{Demand};
 ghost use Rattle.papergrid_tracks.specs.TrackBoundaries.{net_minimum};
-ghost use Rattle.papergrid_tracks.specs.ForProofs.Followed.{earlier_cell, followed_cells, kept_longer, kept_single, with_minimum, is_tight_by};
+ghost use Rattle.papergrid_tracks.specs.ForProofs.Followed.{earlier_cell, followed_cells, kept_longer, kept_single, with_minimum};
+ghost use Rattle.papergrid_tracks.specs.CriticalPath.{is_tight};
 
 use crate::cells::asking;
 use crate::demand::Demand;
@@ -45,7 +46,7 @@ pub fn mark_tight_cells(
         ≤ slice_index lowest_position.now (end_of d)) cells.now }
     ensures length { length tight_cells.new ≡ length tight_cells.old }
     ensures first { EachIndex tight_cells.new (λ i. slice_index_or tight_cells.new i None ≡
-        find (is_tight_by (net_minimum (line_at lines.now)) (slice_index lowest_position.now) i)
+        find (is_tight (net_minimum (line_at lines.now)) (slice_index lowest_position.now) i)
         cells.now) }
 {
     // The last cells first, so that the first tight one is the one that stays.

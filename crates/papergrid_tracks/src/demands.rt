@@ -3,7 +3,6 @@
 ghost use Rattle.std.specs.Prelude.{◌≡◌, ◌+◌, ◌<◌, ◌≤◌, ◌^◌, ℕ, [], ◌∷◌, OnOk, length, slice_index_or, true};
 ghost use Rattle.std.specs.Option.{SomeIff};
 ghost use Rattle.papergrid_tracks.specs.ForProofs.Demands.{AddsDemands, HoldsDemands, gathered_for, no_demand};
-ghost use Rattle.papergrid_values.specs.Positions.{along};
 ghost use Rattle.papergrid_tracks.specs.Ranges.{demand_of};
 
 use crate::demand::Demand;

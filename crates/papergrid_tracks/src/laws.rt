@@ -1,6 +1,6 @@
 //! Laws of the definitions, each the contract of a function that does nothing.
 
-ghost use Rattle.std.specs.Prelude.{ℕ, ◌≡◌, ◌<◌, ◌≤◌, ◌↔◌, ◌⊎◌, All, List, slice_index, true, length, min, reverse, sum, ◌+◌, ◌^◌};
+ghost use Rattle.std.specs.Prelude.{ℕ, ◌≡◌, ◌<◌, ◌≤◌, ◌↔◌, ◌⊎◌, All, List, slice_index, true, length, min, sum, ◌^◌};
 ghost use Rattle.papergrid_tracks.specs.declared.candidate.Candidate.{Candidate};
 ghost use Rattle.papergrid_tracks.specs.declared.checked.Checked.{Checked};
 ghost use Rattle.papergrid_tracks.specs.declared.demand.Demand.{Demand};
@@ -10,11 +10,9 @@ ghost use Rattle.papergrid_tracks.specs.Fits.{Fits, IsCertificate, IsLeast, top_
 ghost use Rattle.papergrid_tracks.specs.Problem.{Problem, total_of};
 ghost use Rattle.papergrid_tracks.specs.Ranges.{IsInTable, IsLaminar, SomeCross};
 ghost use Rattle.papergrid_tracks.specs.Sizes.{sizes_of};
-ghost use Rattle.papergrid_values.specs.Lines.{all_lines};
-ghost use Rattle.papergrid_tracks.specs.LowestPositions.{lowest_position, least_total};
-ghost use Rattle.papergrid_tracks.specs.TrackBoundaries.{AreBoundaries, net_minimum, boundaries_of, sizes_between};
+ghost use Rattle.papergrid_tracks.specs.TrackBoundaries.{AreBoundaries, AreLowest, net_minimum, boundaries_of, sizes_between};
 ghost use Rattle.papergrid_tracks.specs.Least.{AreFurthestRight};
-ghost use Rattle.papergrid_tracks.specs.CriticalPath.{IsPathBack};
+ghost use Rattle.papergrid_tracks.specs.CriticalPath.{IsCriticalPath};
 
 pub use crate::worked::{crossing_worked, worked_rows};
 use crate::{Candidate, Checked, Demand, LayoutError};
@@ -82,32 +80,33 @@ pub fn lower_boundaries()
         AreBoundaries asks n demands (λ i. min (a i) (b i)) }
 {}
 
-/// The lowest positions are boundaries, and no boundaries are below them; so they end at the
-/// least total.
+/// There are lowest positions of the boundaries and no others. The sizes between them are least, and
+/// whatever sizes are least have the last of them as their total.
 pub fn lowest_boundaries()
-    ensures boundaries { (asks : Demand → ℕ) (n : ℕ) (demands : List Demand) →
-        All (IsInTable n) demands → AreBoundaries asks n demands (lowest_position asks demands) }
-    ensures below { (asks : Demand → ℕ) (n : ℕ) (demands : List Demand) (boundary : ℕ → ℕ) →
-        All (IsInTable n) demands → AreBoundaries asks n demands boundary →
-        (i : ℕ) → i ≤ n → lowest_position asks demands i ≤ boundary i }
-    ensures total { (problem : Problem) (sizes : List ℕ) →
-        All (IsInTable problem.count) problem.demands → Fits problem sizes →
-        least_total problem ≤ sum sizes }
-    ensures least { (problem : Problem) → All (IsInTable problem.count) problem.demands →
-        let boundary = lowest_position (net_minimum problem.line) problem.demands in
-        IsLeast problem (sizes_between problem.count boundary) }
+    ensures some { (asks : Demand → ℕ) (n : ℕ) (demands : List Demand) →
+        All (IsInTable n) demands → (lowest : ℕ → ℕ) × AreLowest asks n demands lowest }
+    ensures only { (asks : Demand → ℕ) (n : ℕ) (demands : List Demand) (lowest other : ℕ → ℕ) →
+        AreLowest asks n demands lowest → AreLowest asks n demands other →
+        (i : ℕ) → i ≤ n → lowest i ≡ other i }
+    ensures least { (problem : Problem) (lowest : ℕ → ℕ) →
+        AreLowest (net_minimum problem.line) problem.count problem.demands lowest →
+        All (IsInTable problem.count) problem.demands →
+        IsLeast problem (sizes_between problem.count lowest) }
+    ensures total { (problem : Problem) (lowest : ℕ → ℕ) (sizes : List ℕ) →
+        AreLowest (net_minimum problem.line) problem.count problem.demands lowest →
+        All (IsInTable problem.count) problem.demands →
+        IsLeast problem sizes → sum sizes ≡ lowest problem.count }
 {}
 
-/// There are boundaries from 0 to the least total past which no boundaries are that end there: at
-/// each track the highest ones.
+/// There are boundaries from 0 to the last of the lowest positions past which no boundaries are that
+/// end there: at each track the highest ones.
 pub fn highest_boundaries()
-    ensures { (asks : Demand → ℕ) (n : ℕ) (demands : List Demand) →
-        All (IsInTable n) demands →
+    ensures { (asks : Demand → ℕ) (n : ℕ) (demands : List Demand) (lowest : ℕ → ℕ) →
+        AreLowest asks n demands lowest → All (IsInTable n) demands →
         (highest : ℕ → ℕ) × AreBoundaries asks n demands highest × (highest 0 ≡ 0)
-        × (highest n ≡ lowest_position asks demands n)
+        × (highest n ≡ lowest n)
         × ((boundary : ℕ → ℕ) → AreBoundaries asks n demands boundary →
-        boundary n ≤ lowest_position asks demands n →
-        (i : ℕ) → i ≤ n → boundary i ≤ highest i) }
+        boundary n ≤ lowest n → (i : ℕ) → i ≤ n → boundary i ≤ highest i) }
 {}
 
 /// From any sizes that fit there are least ones. They are the same where those are least, and none
@@ -129,9 +128,6 @@ pub fn least_by_shares()
     ensures only { (problem : Problem) (sizes other : List ℕ) →
         All (IsInTable problem.count) problem.demands →
         AreFurthestRight problem sizes → AreFurthestRight problem other → sizes ≡ other }
-    ensures total { (problem : Problem) (sizes : List ℕ) →
-        All (IsInTable problem.count) problem.demands →
-        AreFurthestRight problem sizes → sum sizes ≡ least_total problem }
     ensures bound { (problem : Problem) (sizes : List ℕ) →
         All (IsInTable problem.count) problem.demands → AreFurthestRight problem sizes →
         (i : ℕ) → i < problem.count → slice_index sizes i ≤ top_minimum problem.demands i }
@@ -141,11 +137,12 @@ pub fn least_by_shares()
         IsLaminar problem.demands → AreFurthestRight problem (sizes_of problem) }
 {}
 
-/// Some sizes fit that have a total in `usize` exactly where the least total and all lines are in it.
+/// Some sizes fit that are not too large exactly where least sizes are not.
 pub fn least_total_decides()
-    ensures decides { (problem : Problem) → All (IsInTable problem.count) problem.demands →
+    ensures decides { (problem : Problem) (least : List ℕ) →
+        All (IsInTable problem.count) problem.demands → IsLeast problem least →
         ((sizes : List ℕ) × Fits problem sizes × (total_of problem sizes < 2 ^ 64)) ↔
-        (least_total problem + all_lines problem.line problem.count < 2 ^ 64) }
+        (total_of problem least < 2 ^ 64) }
     ensures too_large { (problem : Problem) (least : List ℕ) →
         All (IsInTable problem.count) problem.demands → IsLeast problem least →
         IsTooLarge problem least ↔
@@ -155,13 +152,12 @@ pub fn least_total_decides()
 /// There is a critical path and no other, and its cells certify whatever sizes are least.
 pub fn one_critical_path()
     ensures some { (problem : Problem) → All (IsInTable problem.count) problem.demands →
-        (cells : List Demand) × IsPathBack problem problem.count (reverse cells) }
+        (cells : List Demand) × IsCriticalPath problem cells }
     ensures only { (problem : Problem) (cells other : List Demand) →
         All (IsInTable problem.count) problem.demands →
-        IsPathBack problem problem.count (reverse cells) →
-        IsPathBack problem problem.count (reverse other) → cells ≡ other }
+        IsCriticalPath problem cells → IsCriticalPath problem other → cells ≡ other }
     ensures certifies { (problem : Problem) (cells : List Demand) (sizes : List ℕ) →
         All (IsInTable problem.count) problem.demands →
-        IsPathBack problem problem.count (reverse cells) → IsLeast problem sizes →
+        IsCriticalPath problem cells → IsLeast problem sizes →
         IsCertificate problem sizes cells }
 {}

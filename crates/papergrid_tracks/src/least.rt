@@ -1,11 +1,10 @@
 //! The least sizes of the tracks of a table, and the cells that certify them.
 
-ghost use Rattle.std.specs.Prelude.{IfOk, None, false, map, true, ◌≡◌};
+ghost use Rattle.std.specs.Prelude.{IfOk, None, false, true, ◌≡◌};
 ghost use Rattle.papergrid_tracks.specs.ForProofs.Demands.{AreGathered, StandInOrder};
 ghost use Rattle.papergrid_tracks.specs.Problem.{Problem};
-ghost use Rattle.papergrid_tracks.specs.Ranges.{position_of};
 ghost use Rattle.papergrid_tracks.specs.ForProofs.LeastSettled.{AreLowestPositions, IsCriticalPathInOrder};
-ghost use Rattle.papergrid_tracks.specs.CriticalPath.{critical_path};
+ghost use Rattle.papergrid_tracks.specs.LeastAnswers.{AreCriticalPath};
 
 use crate::axis::Axis;
 use crate::critical_path::{follow, mark_tight_cells};
@@ -31,7 +30,7 @@ fn critical_path_positions(
         × AreLowestPositions problem lines.now lowest_position.now }
     ensures { (problem : Problem) → AreGathered problem.count kept.now problem.demands →
         AreLowestPositions problem lines.now lowest_position.now → StandInOrder problem.demands →
-        IfOk result (λ positions. positions.items ≡ map position_of (critical_path problem)) }
+        IfOk result (λ positions. AreCriticalPath problem positions.items) }
 {
     let mut tight_cells = vec![in alloc; None; lowest_position.len()]?;
     mark_tight_cells(&mut tight_cells, lowest_position, lines, &kept.rest);

@@ -1,12 +1,10 @@
 //! The least sizes, from the minimum size of each track alone and the cells of longer ranges.
 
-ghost use Rattle.std.specs.Prelude.{All, IfErr, IfOk, fold, length, map, min, slice_index, ℕ, ◌+◌, ◌^◌, ◌≡◌, ◌≤◌};
+ghost use Rattle.std.specs.Prelude.{All, IfErr, IfOk, fold, length, min, slice_index, ◌+◌, ◌≡◌};
 ghost use Rattle.papergrid_tracks.specs.ForProofs.Settled.{line_at};
 ghost use Rattle.papergrid_tracks.specs.Ranges.{IsInTable};
 ghost use Rattle.papergrid_tracks.specs.Sizes.{grown_sizes, by_span};
-ghost use Rattle.papergrid_values.specs.Lines.{all_lines};
-ghost use Rattle.papergrid_tracks.specs.TrackBoundaries.{net_minimum, boundaries_of, sizes_between};
-ghost use Rattle.papergrid_tracks.specs.ForProofs.Laid.{AreLaid, with_net_minimum};
+ghost use Rattle.papergrid_tracks.specs.TrackBoundaries.{boundaries_of, sizes_between};
 ghost use Rattle.papergrid_tracks.specs.ForProofs.Limits.{AreAllTooLarge, AreLimitsOf, Refuses};
 
 use crate::demand::Demand;

@@ -1,12 +1,10 @@
 //! The boundaries between which those of least sizes lie.
 
-ghost use Rattle.std.specs.Prelude.{All, IfErr, IfOk, length, map, slice_index, ℕ, ◌+◌, ◌<◌, ◌^◌, ◌≡◌, ◌≤◌};
+ghost use Rattle.std.specs.Prelude.{All, IfErr, IfOk, length, slice_index, ℕ, ◌+◌, ◌<◌, ◌^◌, ◌≡◌, ◌≤◌};
 ghost use Rattle.std.specs.List.Sorted.{IsNonDecreasingBy};
 ghost use Rattle.papergrid_tracks.specs.ForProofs.Settled.{line_at};
 ghost use Rattle.papergrid_tracks.specs.Ranges.{IsInTable, end_of};
-ghost use Rattle.papergrid_values.specs.Lines.{all_lines};
-ghost use Rattle.papergrid_tracks.specs.TrackBoundaries.{net_minimum};
-ghost use Rattle.papergrid_tracks.specs.ForProofs.Laid.{AreLaid, AreLaterFirst, with_net_minimum};
+ghost use Rattle.papergrid_tracks.specs.ForProofs.Laid.{AreLaid, AreLaterFirst};
 ghost use Rattle.papergrid_tracks.specs.ForProofs.Limits.{AreAllTooLarge, AreLimitsOf, AreLowestBoundaries, AreHighestBoundaries, Refuses};
 
 use crate::boundaries::{lay_highest, lay_lowest};

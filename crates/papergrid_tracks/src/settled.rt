@@ -5,7 +5,7 @@ ghost use Rattle.std.specs.Prelude.{All, Bool, EachIndex, IfErr, IfNone, IfOk, I
 ghost use Rattle.papergrid_tracks.specs.Problem.{problem_of_demands};
 ghost use Rattle.papergrid_tracks.specs.Ranges.{IsInTable, end_of, first_out};
 ghost use Rattle.papergrid_tracks.specs.ForProofs.Demands.{AreGathered, no_demand};
-ghost use Rattle.papergrid_tracks.specs.Laminar.{longer};
+ghost use Rattle.papergrid_tracks.specs.ForProofs.Settled.{longer};
 ghost use Rattle.papergrid_tracks.specs.Sizes.{by_span};
 ghost use Rattle.papergrid_tracks.specs.declared.demand.Demand.{Demand};
 ghost use Rattle.papergrid_tracks.specs.Sizings.{IsRefused};

@@ -5,5 +5,6 @@ pub mod EqualLemmas
 pub mod GridLemmas
 pub mod KeyLemmas
 pub mod ResultLemmas
+pub mod Tabulated
 pub mod TabulatedLemmas
 pub mod WalkLemmas

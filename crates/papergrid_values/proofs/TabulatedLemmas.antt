@@ -7,7 +7,7 @@ use Rattle.std.specs.Ordering.{eq_by_cmp}
 use Rattle.std.specs.declared.cmp.Ordering.{Ordering}
 use Rattle.std.specs.FinMap.{FinMap, get, get-empty, get-insert}
 use Rattle.std.proofs.lemmas.Bool.{false≢true}
-use Rattle.papergrid_values.specs.Tabulated.{tabulation, with_value}
+use Rattle.papergrid_values.proofs.Tabulated.{tabulation, with_value}
 
 module _ {K X : Type 0} {R : K → K → Ordering} (total : IsTotalOrder R) (exact : (x y : K) → eq_by_cmp R x y ≡ true → x ≡ y) (value : K → Option X) where
   get-with_value : (m : FinMap R X) (k : K) (o : Option X) (q : K) → value k ≡ o → get (with_value m k o) q ≡ cond (eq_by_cmp R q k && is_some o) (value q) (get m q)

@@ -11,6 +11,5 @@ pub mod MapKeys
 pub mod Offsets
 pub mod Parts
 pub mod Positions
-pub mod Tabulated
 pub mod Writes
 pub mod ForProofs

@@ -1,6 +1,6 @@
 //! What visible cells need, along a direction or along both.
 
-ghost use Rattle.std.specs.Prelude.{◌≡◌, ℕ, ◌+◌, ◌-◌, ◌<◌, ◌≤◌, ◌^◌, ◌∷◌, [], ⊤, if◌then◌else◌, IfOk, IfSome, None, OnOk, Some, length};
+ghost use Rattle.std.specs.Prelude.{◌≡◌, ◌+◌, ◌-◌, ◌<◌, ◌≤◌, ◌^◌, ◌∷◌, [], ⊤, if◌then◌else◌, IfOk, None, OnOk, Some, length};
 ghost use Rattle.papergrid_values.specs.declared.direction.Direction.TheVariants.{Columns, Rows};
 ghost use Rattle.papergrid_tracks.specs.ForProofs.Demands.{AddsDemands, AreGathered};
 ghost use Rattle.papergrid_walk.specs.Cells.{demands_by, count_along, demands_of};

@@ -1,5 +1,5 @@
 -- Where a line is cut, by its characters.
-use Rattle.std.specs.Prelude.{◌≡◌, ◌<◌, ◌≤◌, ◌+◌, ◌++◌, ◌||◌, ℕ, All, Bool, List, [], ◌∷◌, chars, encode_utf8_all, if◌then◌else◌, length, take, false}
+use Rattle.std.specs.Prelude.{◌≡◌, ◌<◌, ◌≤◌, ◌++◌, ◌||◌, ℕ, All, Bool, List, [], ◌∷◌, chars, encode_utf8_all, if◌then◌else◌, length, take, false}
 use Rattle.std.specs.Int.{is_in_range}
 use Rattle.std.specs.Str.{IsCharBoundary}
 use Rattle.unicode_width.specs.Width.{str_width}
@@ -19,10 +19,6 @@ is_wide_letter c =
 -- a separator, or a letter that joins nothing after it
 abbrev pub is_apart : ℕ → Bool
 is_apart c = is_separator c || (is_narrow_letter c || is_wide_letter c)
-
--- the widths of a text up to this character and of what stands after it add up
-abbrev pub StandsApart : ℕ → Type 0
-StandsApart c = (front back : List ℕ) → str_width false (front ++ c ∷ back) ≡ str_width false (front ++ c ∷ []) + str_width false back
 
 -- each beginning of these characters is less than so many columns wide, so that an ellipsis fits after it
 abbrev pub AllNarrow : ℕ → List ℕ → Type 0

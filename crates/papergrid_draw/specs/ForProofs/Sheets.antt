@@ -1,5 +1,5 @@
 -- The lines of a table as they are written.
-use Rattle.std.specs.Prelude.{◌≡◌, ◌≢◌, ◌+◌, ◌<◌, ◌≤◌, ℕ, Bool, true, if◌then◌else◌, List, [], ◌∷◌, ◌++◌, Option, Result, Ok, Err, OnOk, length, map, ⊤}
+use Rattle.std.specs.Prelude.{◌≡◌, ◌+◌, ◌<◌, ◌≤◌, ℕ, Bool, true, if◌then◌else◌, List, [], ◌∷◌, ◌++◌, Result, Ok, Err, OnOk, length, map, ⊤}
 use Rattle.std.specs.Fmt.{WritesInCalls}
 use Rattle.std.specs.List.{enumerate_from, range_with_len}
 use Rattle.papergrid_values.specs.Positions.{IsBefore, position_of}
@@ -9,11 +9,11 @@ use Rattle.papergrid_layout.specs.Places.{total_along}
 use Rattle.papergrid_draw.specs.Bytes.{line_bytes}
 use Rattle.papergrid_draw.specs.Drawings.{Drawing, layout_of}
 use Rattle.papergrid_draw.specs.Drawn.{DrawnLine, TextLine, text_line}
-use Rattle.papergrid_draw.specs.Faults.{HasNoRoom, IsDrawFault}
+use Rattle.papergrid_draw.specs.Faults.{HasNoRoom}
 use Rattle.papergrid_draw.specs.Margins.{beside, with_margins}
 use Rattle.papergrid_draw.specs.Deliveries.{BreaksOff, TakesBeginning}
 use Rattle.papergrid_draw.specs.Tiles.{IsFirstPosition}
-use Rattle.papergrid_draw.specs.ForProofs.Pages.{AreSlotsSet, AreSlots, Texts, row_start, text_start}
+use Rattle.papergrid_draw.specs.ForProofs.Pages.{AreSlotsSet, AreSlots, row_start, text_start}
 use Rattle.papergrid_draw.specs.declared.error.DrawError.{DrawError}
 use Rattle.papergrid_draw.specs.declared.error.DrawError.TheVariants.{Memory, NoRoom, NotTiled, OutOfTable, TooLarge, Write}
 use Rattle.papergrid_draw.specs.declared.page.Slot.{Slot}
@@ -60,10 +60,6 @@ module _ {W : Type 0} (takes breaks : W → List ℕ → W → Type 0) where
     pub begun_is : OnOk result (after ≡ begun_after begun lines)
 
 -- ---- the lines of a table
-
--- what is told of cells
-abbrev pub told_texts : {C : Type 0} → (C → Position → List (List ℕ × ℕ)) → (C → Position → Option (List ℕ × List ℕ)) → C → Texts
-told_texts lines color cells = record { lines = lines cells; color = color cells }
 
 module _ (d : Drawing) where
   -- what stands left and right of line y
@@ -117,7 +113,3 @@ module _ (d : Drawing) where
   IsRoomFault e = ⊥
 
 -- ---- the whole picture
-
--- why it is not drawn, before anything is written
-abbrev pub IsDrawRefusal : Drawing → DrawError → Type 0
-IsDrawRefusal d e = IsDrawFault d e × (e ≢ Write)

@@ -2,26 +2,15 @@
 use mathlib.Core.HLevel.{Π_prop, ⊥_prop, is_prop→PathP}
 use denote.Struct.Props.{props}
 use base.Stored.{Coded-set}
-use Rattle.std.specs.Prelude.{◌≡◌, ◌⊎◌, ℕ, ◌+◌, ◌<◌, ◌≤◌, ◌^◌, List, Some, length, refl, slice_get, slice_index}
+use Rattle.std.specs.Prelude.{◌≡◌, ◌⊎◌, ℕ, ◌+◌, ◌<◌, ◌≤◌, ◌^◌, List, length, refl, slice_index}
 use Rattle.std.specs.Coded.{Coded, code_by, coded×, coded_ℕ}
 use Rattle.papergrid_values.specs.Positions.{IsBefore, position_of}
-use Rattle.papergrid_values.specs.declared.direction.Direction.TheVariants.{Columns, Rows}
+use Rattle.papergrid_values.specs.declared.direction.Direction.TheVariants.{Rows}
 use Rattle.papergrid_values.specs.declared.position.Position.{Position}
-use Rattle.papergrid_maps.specs.declared.anchors.Anchor.{Anchor}
 use Rattle.papergrid_walk.specs.ForProofs.Shown.{Shows}
-use Rattle.papergrid_walk.specs.ForProofs.Swept.{Walk}
 use Rattle.papergrid_layout.specs.Places.{TableView}
-use Rattle.papergrid_draw.specs.Tiles.{AreWithin, IsTablePosition, IsTiled, IsOwnedOnce, EndsOutside, Owns, owner}
+use Rattle.papergrid_draw.specs.Tiles.{AreWithin, IsTablePosition, IsTiled, IsOwnedOnce, Owns}
 use Rattle.papergrid_draw.specs.declared.tiles.Tiling.{Tiling}
-
--- the cell at p is the owner of q, and no other visible cell covers that; p is a cell of the table, and ends in it
-pub record HasOwner (table : TableView) (q p : Position) : Type 0 where
-  pub is : owner table q ≡ Some p
-  pub owns : Owns table p q
-  pub alone : (other : Position) → Owns table other q → other ≡ p
-  pub in_table : IsTablePosition table p
-  pub across : p.col + table.grid.span Columns p ≤ table.shape.1
-  pub down : p.row + table.grid.span Rows p ≤ table.shape.0
 
 -- a walk over positions has come to row r and column c
 module _ (table : TableView) (r c : ℕ) where
@@ -62,11 +51,6 @@ pub record HasTiled (table : TableView) (r c : ℕ) (tiling : Tiling) : Type 0 w
   pub within : AreWithin table
   pub shows : Shows table.grid tiling.sweep r c
   pub owned : AreOwnedBefore table r c tiling.until.items
-
--- a walk over the anchors has come to number i, and passed no visible cell of the table that ends outside
-pub record EndInTable (table : TableView) (anchors : List Anchor) (i : ℕ) (walk : Walk) : Type 0 where
-  pub shows : (k : ℕ) (a : Anchor) → i ≤ k → slice_get anchors k ≡ Some a → Shows table.grid walk a.position.row a.position.col
-  pub none : (k : ℕ) (a : Anchor) → k < i → slice_get anchors k ≡ Some a → EndsOutside table a.position → ⊥
 
 -- ---- a table is tiled in one way at most
 

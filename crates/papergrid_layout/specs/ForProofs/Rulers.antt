@@ -1,6 +1,5 @@
 -- What a ruler asks of its dimension, and what it reads of it and of its settings.
 use Rattle.std.specs.Prelude.{ℕ, Bool}
-use Rattle.papergrid_values.specs.declared.direction.Direction.{Direction}
 use Rattle.papergrid_maps.specs.Grids.{Grid}
 use Rattle.papergrid_layout.specs.Places.{size_along, total}
 use Rattle.papergrid_layout.specs.Tables.{HasSizes, has_along}

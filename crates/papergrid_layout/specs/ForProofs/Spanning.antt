@@ -1,12 +1,10 @@
 -- What is kept of the cells of a table that span several columns or rows.
-use Rattle.std.specs.Prelude.{◌≡◌, ◌⊎◌, ℕ, ◌+◌, ◌<◌, ◌≤◌, All, AllPairs, Contains, List, [], ◌∷◌, ◌++◌, Option, None, Some, slice_get}
+use Rattle.std.specs.Prelude.{◌≡◌, ◌⊎◌, ℕ, ◌+◌, ◌<◌, ◌≤◌, All, AllPairs, Contains, List, [], ◌∷◌, ◌++◌, Option, None, Some}
 use Rattle.std.specs.List.Sorted.{IsNonDecreasingBy}
 use Rattle.papergrid_values.specs.declared.position.Position.{Position}
 use Rattle.papergrid_values.specs.declared.direction.Direction.{Direction}
 use Rattle.papergrid_values.specs.declared.direction.Direction.TheVariants.{Rows}
 use Rattle.papergrid_values.specs.Positions.{IsBefore}
-use Rattle.papergrid_maps.specs.declared.anchors.Anchor.{Anchor}
-use Rattle.papergrid_walk.specs.ForProofs.Shown.{Shows}
 use Rattle.papergrid_layout.specs.Places.{Covers, HasPlace, IsInsideTable, TableView, place_at}
 use Rattle.papergrid_layout.specs.declared.spanning.SpanningCell.{SpanningCell}
 use Rattle.papergrid_layout.specs.declared.spanning.Spanning.{Spanning}
@@ -37,14 +35,6 @@ IsSpannedStep table p old new =
     ((IsInsideTable table p → ⊥) × (new.cells.items ≡ old.cells.items) × (new.reach ≡ old.reach))
     ⊎ (IsInsideTable table p × (old.reach ≤ new.reach) × (end_row table p ≤ new.reach)
     × (new.cells.items ≡ old.cells.items ++ record { position = p; place = place_at table p; reach = new.reach } ∷ []))
-
--- the walk over the anchors has come to track i
-pub record HasSpanned (table : TableView) (anchors : List Anchor) (i : ℕ) (found : Spanning) : Type 0 where
-  pub shows : (k : ℕ) (a : Anchor) → i ≤ k → slice_get anchors k ≡ Some a → Shows table.grid found.sweep a.position.row a.position.col
-  pub are : AreSpanning table found.cells.items
-  pub before : (k : ℕ) (a : Anchor) → i ≤ k → slice_get anchors k ≡ Some a → All (λ c. IsBefore c.position a.position) found.cells.items
-  pub within : All (λ (c : SpanningCell). c.reach ≤ found.reach) found.cells.items
-  pub complete : (k : ℕ) (a : Anchor) → k < i → slice_get anchors k ≡ Some a → IsInsideTable table a.position → IsListed found.cells.items a.position
 
 -- the rows of each cell that covers a point have the row
 abbrev pub CoverInRow : TableView → ℕ → ℕ → ℕ → List SpanningCell → Type 0

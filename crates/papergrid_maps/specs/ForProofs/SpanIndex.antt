@@ -66,12 +66,6 @@ IsReached index p =
     (anchor : Position) × (line_of direction anchor ≡ line_of direction p) × (along direction anchor < along direction p)
     × (along direction p < along direction anchor + span_at index.spans anchor)
 
--- the same, by keys
-abbrev pub IsKeyReached : BTreeMap Position ℕ → Position → Type 0
-IsKeyReached spans key =
-    (start : Position) × (start.row ≡ key.row) × (start.col < key.col)
-    × (key.col < start.col + unwrap_or (tree_get position_cmp spans start) 1)
-
 -- no span below 2 is stored
 abbrev pub AreFromTwo : FinMap position_cmp ℕ → Type 0
 AreFromTwo spans = (p : Position) (n : ℕ) → get spans p ≡ Some n → 2 ≤ n
@@ -121,12 +115,6 @@ extent_stored direction span other = None
 abbrev pub HoldsBoth : DirectedSpans → FinMap position_cmp ℕ → BTreeMap Position Extent → Type 0
 HoldsBoth index others both =
     (p : Position) → tree_get position_cmp both p ≡ extent_stored index.direction (get index.spans p) (get others p)
-
--- a rectangle of these begins above and left of the position and reaches it
-abbrev pub IsReachedByBoth : BTreeMap Position Extent → Position → Type 0
-IsReachedByBoth both p =
-    (anchor : Position) × (extent : Extent) × (tree_get position_cmp both anchor ≡ Some extent)
-    × (anchor.row < p.row) × (p.row < anchor.row + extent.rows) × (anchor.col < p.col) × (p.col < anchor.col + extent.columns)
 
 -- ---- rectangles and many positions
 

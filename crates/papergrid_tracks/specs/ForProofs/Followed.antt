@@ -1,18 +1,9 @@
 -- Going back along the lowest positions of the boundaries, by what is kept of the cells.
-use Rattle.std.specs.Prelude.{ℕ, zero, suc, ◌+◌, ◌-◌, Bool, ◌&&◌, ◌||◌, ◌==◌, nat_lt, if◌then◌else◌, List, [], find, Option, Some, None, slice_index_or}
+use Rattle.std.specs.Prelude.{ℕ, zero, suc, ◌-◌, Bool, ◌&&◌, ◌||◌, ◌==◌, nat_lt, if◌then◌else◌, List, [], ◌∷◌, Option, Some, None, slice_index_or}
 use Rattle.papergrid_values.specs.declared.position.Position.{Position}
 use Rattle.papergrid_tracks.specs.declared.demand.Demand.{Demand}
-use Rattle.papergrid_tracks.specs.Ranges.{end_of, position_of}
+use Rattle.papergrid_tracks.specs.Ranges.{position_of}
 use Rattle.papergrid_tracks.specs.ForProofs.Demands.{no_demand}
-use Rattle.papergrid_tracks.specs.CriticalPath.{is_tight, with_earlier}
-
--- the first cell that covers one track alone and is tight at the boundary at i
-abbrev pub single_tight_cell : (Demand → ℕ) → List Demand → ℕ → Option Demand
-single_tight_cell asks demands i = find (λ d. d.span == 1 && is_tight asks demands i d) demands
-
--- the first cell of a longer range that does so
-abbrev pub longer_tight_cell : (Demand → ℕ) → List Demand → ℕ → Option Demand
-longer_tight_cell asks demands i = find (λ d. nat_lt 1 d.span && is_tight asks demands i d) demands
 
 -- whether one position comes before another, by row and then by column
 abbrev pub is_before : Position → Position → Bool
@@ -24,13 +15,14 @@ earlier_cell None other = other
 earlier_cell (Some d) None = Some d
 earlier_cell (Some d) (Some e) = if is_before (position_of e) (position_of d) then Some e else Some d
 
--- whether the cell is tight at the boundary at i, by these boundaries
-abbrev pub is_tight_by : (Demand → ℕ) → (ℕ → ℕ) → ℕ → Demand → Bool
-is_tight_by asks boundary i d = end_of d == i && (boundary d.start + asks d == boundary i)
-
 -- the cell, where it needs so much
 abbrev pub with_minimum : ℕ → Demand → Option Demand
 with_minimum step d = if d.minimum == step then Some d else None
+
+-- the cell, and then those before its range
+abbrev pub with_earlier : Option Demand → (ℕ → List Demand) → List Demand
+with_earlier None earlier = []
+with_earlier (Some d) earlier = d ∷ earlier d.start
 
 -- the cells met going back from the boundary at i: over a boundary without a tight cell to the one before, else from the earlier
 -- of two cells to where its range starts: what is kept for the number before it, where that needs what lies between the two

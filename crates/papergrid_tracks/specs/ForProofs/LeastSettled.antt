@@ -6,9 +6,8 @@ use Rattle.papergrid_tracks.specs.ForProofs.Demands.{StandInOrder}
 use Rattle.papergrid_tracks.specs.ForProofs.Settled.{line_at}
 use Rattle.papergrid_tracks.specs.Problem.{Problem, total_of}
 use Rattle.papergrid_tracks.specs.Ranges.{IsInTable, first_out}
-use Rattle.papergrid_tracks.specs.LowestPositions.{lowest_position}
-use Rattle.papergrid_tracks.specs.TrackBoundaries.{net_minimum}
-use Rattle.papergrid_tracks.specs.Least.{least_of}
+use Rattle.papergrid_tracks.specs.TrackBoundaries.{AreLowest, net_minimum}
+use Rattle.papergrid_tracks.specs.Fits.{IsLeast}
 use Rattle.papergrid_tracks.specs.LeastAnswers.{AreCriticalPath}
 use Rattle.papergrid_tracks.specs.Sizings.{Certifies}
 use Rattle.papergrid_tracks.specs.declared.sizing.Sizing.{Sizing}
@@ -18,12 +17,11 @@ use Rattle.papergrid_tracks.specs.declared.sizing.Sizing.TheVariants.{ByShares, 
 pub record AreLowestPositions (problem : Problem) (lines : List Bool) (boundaries : List ℕ) : Type 0 where
   pub none_out : first_out problem.count problem.demands ≡ None
   pub table : All (IsInTable problem.count) problem.demands
-  pub total : total_of problem (least_of problem) < 2 ^ 64
+  pub total : (sizes : List ℕ) → IsLeast problem sizes → total_of problem sizes < 2 ^ 64
   pub lined : length lines ≡ problem.count + 1
   pub drawn : (i : ℕ) → i ≤ problem.count → line_at lines i ≡ problem.line i
   pub many : length boundaries ≡ problem.count + 1
-  pub boundary_at : (i : ℕ) → i ≤ problem.count →
-      slice_index boundaries i ≡ lowest_position (net_minimum problem.line) problem.demands i
+  pub lowest : AreLowest (net_minimum problem.line) problem.count problem.demands (slice_index boundaries)
 
 -- the positions of cells, of which there always are some, and which certify the least sizes where the demands stand in order
 abbrev pub IsCriticalPathInOrder : {Z : Type 0} → Problem → Option (Vec Position Z) → Type 0

@@ -1,5 +1,5 @@
 -- What is known before the cells of longer ranges are taken, and once they were.
-use Rattle.std.specs.Prelude.{◌≡◌, ℕ, ◌+◌, ◌^◌, ◌<◌, ◌≤◌, Bool, false, List, None, length, slice_index, slice_index_or, All}
+use Rattle.std.specs.Prelude.{◌≡◌, ℕ, ◌+◌, ◌^◌, ◌<◌, ◌≤◌, Bool, false, List, None, length, slice_index, slice_index_or, All, filter, nat_lt}
 use Rattle.papergrid_tracks.specs.declared.demand.Demand.{Demand}
 use Rattle.papergrid_tracks.specs.declared.demands.Demands.{Demands}
 use Rattle.papergrid_tracks.specs.ForProofs.Demands.{no_demand}
@@ -11,6 +11,10 @@ use Rattle.papergrid_tracks.specs.Sizes.{sizes_of, by_span}
 -- whether a line is drawn, by a list that says so of each number; none past its end
 abbrev pub line_at : List Bool → ℕ → Bool
 line_at lines i = slice_index_or lines i false
+
+-- the cells of longer ranges
+abbrev pub longer : List Demand → List Demand
+longer demands = filter (λ d. nat_lt 1 d.span) demands
 
 -- what the sizes of n tracks begin with: the lines, and the minimum size that is kept for each track, where no kept cell
 -- overflows the table or has a large minimum size

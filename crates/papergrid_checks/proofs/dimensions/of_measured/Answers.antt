@@ -2,7 +2,7 @@ use Rattle.papergrid_text.specs.HeldRows.{column_count, rows_held}
 use Rattle.papergrid_config.specs.Grids.{spanned_grid}
 use Rattle.papergrid_checks.specs.Rows.{cells_of, kept_measure}
 use Rattle.papergrid_checks.proofs.RowLemmas.{refused_on, sizes_told}
-use Rattle.papergrid_tracks.specs.ForProofs.BySizing.{AreSizes}
+use Rattle.papergrid_tracks.proofs.BySizing.{AreSizes}
 use Rattle.papergrid_tracks.specs.declared.sizing.Sizing.TheVariants.{ByShares}
 use Rattle.papergrid_checks.proofs.dimensions.of_measured.Goals as goal
 

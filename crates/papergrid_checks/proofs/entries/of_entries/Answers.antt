@@ -2,7 +2,7 @@ use Rattle.std.proofs.Common.{◌≡◌, ◌∙◌, ◌∷◌, [], ℕ, List, ma
 use Rattle.std.specs.Prelude.{Vec}
 use Rattle.std.specs.Borrow.{Bor}
 use Rattle.std.specs.declared.alloc.Global.{Global}
-use Rattle.papergrid_tracks.specs.ForProofs.BySizing.{AreSizes}
+use Rattle.papergrid_tracks.proofs.BySizing.{AreSizes}
 use Rattle.papergrid_tracks.specs.declared.error.LayoutError.{LayoutError}
 use Rattle.papergrid_tracks.specs.declared.error.LayoutError.TheVariants.{OutOfTable, TooLarge, Memory}
 use Rattle.papergrid_layout.specs.Answers.{UnlessMemoryError}

@@ -1,4 +1,4 @@
-use Rattle.papergrid_tracks.specs.ForProofs.BySizing.{AreSizes}
+use Rattle.papergrid_tracks.proofs.BySizing.{AreSizes}
 use Rattle.std.proofs.Common.{◌≡◌, ◌<◌, ◌∙◌, arith, length}
 use Rattle.std.proofs.lemmas.List.{length-map}
 use Rattle.papergrid_config.specs.Grids.{spanned_grid}

@@ -4,7 +4,7 @@ use Rattle.papergrid_text.specs.Cut.{cut_rows}
 use Rattle.papergrid_config.specs.Grids.{spanned_grid}
 use Rattle.papergrid_walk.specs.Measures.{line_measure}
 use Rattle.papergrid_checks.proofs.RowLemmas.{both_refused, both_told}
-use Rattle.papergrid_tracks.specs.ForProofs.BySizing.{AreSizes}
+use Rattle.papergrid_tracks.proofs.BySizing.{AreSizes}
 use Rattle.papergrid_tracks.specs.declared.sizing.Sizing.TheVariants.{ByShares}
 use Rattle.papergrid_checks.proofs.own.of_flat.Goals as goal
 

@@ -1,4 +1,3 @@
-use Rattle.std.specs.Prelude.{Err, Ok}
 use Rattle.papergrid_tracks.specs.declared.sizing.Sizing.TheVariants.{ByShares}
 use Rattle.papergrid_values.specs.declared.direction.Direction.TheVariants.{Columns}
 use Rattle.papergrid_walk.specs.Cells.{problem_of}

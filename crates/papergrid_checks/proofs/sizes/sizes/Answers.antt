@@ -1,7 +1,7 @@
 use Rattle.papergrid_config.specs.Grids.{spanned_grid}
 use Rattle.papergrid_checks.specs.Rows.{cells_of, lent_measure}
 use Rattle.papergrid_checks.proofs.RowLemmas.{refused_on, sizes_told}
-use Rattle.papergrid_tracks.specs.ForProofs.BySizing.{AreSizes}
+use Rattle.papergrid_tracks.proofs.BySizing.{AreSizes}
 use Rattle.papergrid_tracks.specs.declared.sizing.Sizing.TheVariants.{ByShares}
 use Rattle.papergrid_checks.proofs.sizes.sizes.Goals as goal
 

@@ -2,7 +2,7 @@ use Rattle.papergrid_values.specs.declared.direction.Direction.TheVariants.{Colu
 use Rattle.papergrid_config.specs.Grids.{spanned_grid}
 use Rattle.papergrid_checks.specs.Rows.{cells_of, lent_measure}
 use Rattle.papergrid_checks.proofs.RowLemmas.{answers_told}
-use Rattle.papergrid_tracks.specs.ForProofs.BySizing.{AreSizes}
+use Rattle.papergrid_tracks.proofs.BySizing.{AreSizes}
 use Rattle.papergrid_tracks.specs.declared.sizing.Sizing.TheVariants.{ByShares}
 use Rattle.papergrid_checks.proofs.sizes.widths.Goals as goal
 

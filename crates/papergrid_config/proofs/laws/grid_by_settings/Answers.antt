@@ -1,4 +1,4 @@
-use Rattle.papergrid_config.specs.ForProofs.Made.{grid_of}
+use Rattle.papergrid_config.proofs.Made.{grid_of}
 use Rattle.papergrid_config.proofs.SettingGridLemmas.{grid-decided, is-grid, one-grid}
 use Rattle.papergrid_config.proofs.laws.grid_by_settings.Goals as goal
 

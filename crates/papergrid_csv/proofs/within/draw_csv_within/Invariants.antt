@@ -1,4 +1,4 @@
-use Rattle.papergrid_csv.specs.ForProofs.Within.{IsTried}
+use Rattle.papergrid_csv.proofs.WithinLemmas.{IsTried}
 use Rattle.papergrid_csv.proofs.within.draw_csv_within.Given as goal
 
 abbrev pub invariant-loop-next : goal.invariant-loop-next

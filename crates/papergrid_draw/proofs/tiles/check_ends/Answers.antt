@@ -4,7 +4,7 @@ use Rattle.std.proofs.lemmas.Option.{slice_get-get_or}
 use Rattle.papergrid_maps.specs.declared.anchors.Anchor.{Anchor}
 use Rattle.papergrid_walk.specs.ForProofs.Shown.{Shows}
 use Rattle.papergrid_walk.proofs.ShownLemmas.{anchor_of, shows_first}
-use Rattle.papergrid_draw.specs.ForProofs.Tiles.{EndInTable}
+use Rattle.papergrid_draw.proofs.EndLemmas.{EndInTable}
 use Rattle.papergrid_draw.proofs.EndLemmas.{ends-all, ends-found, ends-more, ends-none}
 use Rattle.papergrid_draw.proofs.tiles.check_ends.Goals as goal
 

@@ -1,7 +1,7 @@
 use Rattle.std.proofs.Common.{◌≡◌}
 use Rattle.papergrid_maps.specs.Hidden.{AreAnchorsOf}
 use Rattle.papergrid_layout.specs.Places.{TableView}
-use Rattle.papergrid_draw.specs.ForProofs.Tiles.{EndInTable}
+use Rattle.papergrid_draw.proofs.EndLemmas.{EndInTable}
 use Rattle.papergrid_draw.proofs.tiles.check_ends.Given as goal
 
 abbrev pub invariant-loop-i : goal.invariant-loop-i

@@ -3,7 +3,7 @@ use Rattle.std.specs.Prelude.{slice_get}
 use Rattle.std.proofs.lemmas.Option.{slice_get-get_or}
 use Rattle.papergrid_maps.specs.Hidden.{AreAnchorsOf}
 use Rattle.papergrid_walk.specs.ForProofs.Shown.{Shows}
-use Rattle.papergrid_layout.specs.ForProofs.Spanning.{HasSpanned}
+use Rattle.papergrid_layout.proofs.SpanningLemmas.{HasSpanned}
 use Rattle.papergrid_layout.proofs.SpanningLemmas.{all-spanned, spanned-none, spanned-step}
 use Rattle.papergrid_layout.proofs.spanning.spanning_cells.Goals as goal
 

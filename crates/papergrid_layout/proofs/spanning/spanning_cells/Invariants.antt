@@ -3,7 +3,7 @@ use Rattle.std.specs.Prelude.{◌^◌}
 use Rattle.papergrid_values.specs.declared.direction.Direction.{Direction}
 use Rattle.papergrid_layout.specs.Places.{TableView, total_along}
 use Rattle.papergrid_layout.specs.ForProofs.Placing.{AreMarked}
-use Rattle.papergrid_layout.specs.ForProofs.Spanning.{HasSpanned}
+use Rattle.papergrid_layout.proofs.SpanningLemmas.{HasSpanned}
 use Rattle.papergrid_layout.proofs.spanning.spanning_cells.Given as goal
 
 abbrev pub invariant-loop-i : goal.invariant-loop-i

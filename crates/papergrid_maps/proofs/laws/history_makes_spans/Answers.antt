@@ -1,5 +1,5 @@
 use Rattle.std.proofs.Common.{◌∙◌, sym}
-use Rattle.papergrid_maps.specs.ForProofs.Made.{spans_made}
+use Rattle.papergrid_maps.proofs.Made.{spans_made}
 use Rattle.papergrid_maps.proofs.MadeTables.{spans_made_history, span_history}
 use Rattle.papergrid_maps.proofs.laws.history_makes_spans.Goals as goal
 

@@ -1,5 +1,5 @@
 use Rattle.std.proofs.Common.{◌∙◌, sym}
-use Rattle.papergrid_maps.specs.ForProofs.SpanSearch.{effective_span}
+use Rattle.papergrid_maps.proofs.SpanSearch.{effective_span}
 use Rattle.papergrid_maps.proofs.EffectiveSpanLemmas.{IsEffectiveSpan-only, effective_span-IsEffectiveSpan}
 use Rattle.papergrid_maps.proofs.laws.one_effective_span.Goals as goal
 

@@ -1,5 +1,5 @@
 use Rattle.std.proofs.Common.{◌∙◌, sym}
-use Rattle.papergrid_maps.specs.ForProofs.MapSearch.{effective_value}
+use Rattle.papergrid_maps.proofs.MapSearch.{effective_value}
 use Rattle.papergrid_maps.proofs.EffectiveCallLemmas.{IsEffective-only, effective_value-IsEffective}
 use Rattle.papergrid_maps.proofs.laws.one_effective_value.Goals as goal
 

@@ -1,5 +1,5 @@
 use Rattle.std.proofs.Common.{◌∙◌, sym}
-use Rattle.papergrid_script.specs.ForProofs.Estimated.{estimate_of}
+use Rattle.papergrid_script.proofs.Estimated.{estimate_of}
 use Rattle.papergrid_script.proofs.LawLemmas.{estimate-computed, least_too_large, only-estimate}
 use Rattle.papergrid_script.proofs.laws.one_estimate.Goals as goal
 

@@ -1,5 +1,5 @@
 use Rattle.std.proofs.Common.{◌∙◌, sym}
-use Rattle.papergrid_script.specs.ForProofs.Estimated.{outcome_of}
+use Rattle.papergrid_script.proofs.Estimated.{outcome_of}
 use Rattle.papergrid_script.specs.ForProofs.Read.{table_of}
 use Rattle.papergrid_script.proofs.OutcomeLemmas.{outcome-computed, outcome-only}
 use Rattle.papergrid_script.proofs.laws.one_outcome.Goals as goal

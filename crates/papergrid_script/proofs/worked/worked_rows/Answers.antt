@@ -8,7 +8,7 @@ use Rattle.papergrid_text.specs.Text.{character_of}
 use Rattle.papergrid_script.specs.Grammar.{number_said, position_said, position_and_count, entity_said, sides_of, padding_of, number_and_character, keyword_setting, keyword_says, text_says, line_says}
 use Rattle.papergrid_script.specs.ForProofs.Read.{script_lines}
 use Rattle.papergrid_script.specs.ForProofs.Read.{table_of}
-use Rattle.papergrid_script.specs.ForProofs.Estimated.{estimate_by}
+use Rattle.papergrid_script.proofs.Estimated.{estimate_by}
 use Rattle.papergrid_script.proofs.ListedLemmas.{worked}
 use Rattle.papergrid_script.proofs.worked.worked_rows.Goals as goal
 

@@ -1,5 +1,5 @@
 use Rattle.std.proofs.Common.{◌∙◌, sym}
-use Rattle.papergrid_tables.specs.ForProofs.Made.{borders_made}
+use Rattle.papergrid_tables.proofs.Made.{borders_made}
 use Rattle.papergrid_tables.proofs.MadeTables.{borders_made_history, same_borders}
 use Rattle.papergrid_tables.proofs.laws.history_makes_borders.Goals as goal
 

@@ -1,8 +1,8 @@
-use Rattle.std.proofs.Common.{◌∙◌, ℕ, ◌≤◌, List, ap, refl, subst, sum, sym}
+use Rattle.std.proofs.Common.{◌∙◌, ℕ, ◌≤◌, List, refl, subst, sym}
 use Rattle.std.specs.Prelude.{slice_index}
 use Rattle.papergrid_tracks.specs.Fits.{top_minimum}
-use Rattle.papergrid_tracks.specs.Least.{least_of}
-use Rattle.papergrid_tracks.proofs.LeastLemmas.{total-least_of, bound-least_of, furthest_right-is, least_of-shares, same-least_of}
+use Rattle.papergrid_tracks.proofs.HighestLemmas.{least_of}
+use Rattle.papergrid_tracks.proofs.LeastLemmas.{bound-least_of, furthest_right-is, least_of-shares, same-least_of}
 use Rattle.papergrid_tracks.proofs.laws.least_by_shares.Goals as goal
 
 pub returns-clause-some : goal.returns-clause-some
@@ -10,9 +10,6 @@ returns-clause-some c = λ problem table. (least_of problem, (furthest_right-is 
 
 pub returns-clause-only : goal.returns-clause-only
 returns-clause-only c = λ problem sizes other table is also. (furthest_right-is problem table sizes).0 is ∙ sym ((furthest_right-is problem table other).0 also)
-
-pub returns-clause-total : goal.returns-clause-total
-returns-clause-total c = λ problem sizes table is. ap sum ((furthest_right-is problem table sizes).0 is) ∙ total-least_of problem table
 
 pub returns-clause-bound : goal.returns-clause-bound
 returns-clause-bound c = λ problem sizes table is i l.

@@ -1,5 +1,5 @@
-use Rattle.papergrid_tracks.specs.Least.{least_sizes}
 use Rattle.papergrid_tracks.proofs.BoundLemmas.{bound-least_sizes}
+use Rattle.papergrid_tracks.proofs.HighestLemmas.{least_sizes}
 use Rattle.papergrid_tracks.proofs.LeastLemmas.{IsLeast-least_sizes, same-least_sizes}
 use Rattle.papergrid_tracks.proofs.laws.least_from_any.Goals as goal
 

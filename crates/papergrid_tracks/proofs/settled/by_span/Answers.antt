@@ -3,7 +3,7 @@ use Rattle.std.specs.List.Sorted.{IsPermutation, IsStableByKey}
 use Rattle.std.proofs.lemmas.List.Elements.{recursion_from_All}
 use Rattle.std.proofs.lemmas.List.Sorted.{IsNonDecreasingBy-from_sort_by_key, answers_always, All-permutation}
 use Rattle.papergrid_tracks.specs.declared.demand.Demand.{Demand}
-use Rattle.papergrid_tracks.specs.Laminar.{longer}
+use Rattle.papergrid_tracks.specs.ForProofs.Settled.{longer}
 use Rattle.papergrid_tracks.proofs.Groups.{by_span-from_sort, longer-spans}
 use Rattle.papergrid_tracks.proofs.settled.by_span.Goals as goal
 

@@ -7,7 +7,7 @@ use Rattle.papergrid_layout.specs.Tables.{view_of}
 use Rattle.papergrid_draw.specs.Contents.{FitsPlace, block_at}
 use Rattle.papergrid_draw.specs.Drawings.{layout_of}
 use Rattle.papergrid_draw.specs.ForProofs.FilledFrames.{filled, filled_table}
-use Rattle.papergrid_draw.specs.ForProofs.Sheets.{told_texts}
+use Rattle.papergrid_draw.proofs.SheetLemmas.{told_texts}
 use Rattle.papergrid_draw.proofs.RoomLemmas.{first-without, found-block, room-more, shown-of}
 use Rattle.papergrid_draw.proofs.filled_frame.FilledFrame.check_cell.Goals as goal
 

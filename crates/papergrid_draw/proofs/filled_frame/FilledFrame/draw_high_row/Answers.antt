@@ -1,7 +1,8 @@
 use Rattle.std.proofs.Common.{subst}
 use Rattle.std.proofs.lemmas.Result.{on_ok_weaker}
 use Rattle.papergrid_draw.specs.ForProofs.FilledFrames.{filled}
-use Rattle.papergrid_draw.specs.ForProofs.Sheets.{WritesLines, margined, first_text_lines, told_texts}
+use Rattle.papergrid_draw.specs.ForProofs.Sheets.{WritesLines, margined, first_text_lines}
+use Rattle.papergrid_draw.proofs.SheetLemmas.{told_texts}
 use Rattle.papergrid_draw.proofs.SheetLemmas.{lines-refused}
 use Rattle.papergrid_draw.proofs.PlainLemmas.{text-comes}
 use Rattle.papergrid_draw.proofs.filled_frame.FilledFrame.draw_high_row.Goals as goal

@@ -5,7 +5,8 @@ use Rattle.papergrid_values.specs.declared.direction.Direction.TheVariants.{Rows
 use Rattle.papergrid_draw.specs.Drawn.{TextLine, text_line}
 use Rattle.papergrid_draw.specs.ForProofs.FilledFrames.{filled, filled_table}
 use Rattle.papergrid_draw.specs.ForProofs.Pages.{text_start}
-use Rattle.papergrid_draw.specs.ForProofs.Sheets.{WritesLines, margined, told_texts}
+use Rattle.papergrid_draw.specs.ForProofs.Sheets.{WritesLines, margined}
+use Rattle.papergrid_draw.proofs.SheetLemmas.{told_texts}
 use Rattle.papergrid_draw.proofs.SheetLemmas.{lines-refused}
 use Rattle.papergrid_draw.proofs.PrinterLemmas.{one-margined, text-within}
 use Rattle.papergrid_draw.proofs.filled_frame.FilledFrame.draw_low_row.Goals as goal

@@ -3,7 +3,8 @@ use Rattle.std.proofs.lemmas.Result.{err_from_is_err_and, on_ok_weaker}
 use Rattle.papergrid_draw.specs.Drawn.{rule_lines}
 use Rattle.papergrid_draw.specs.ForProofs.FilledFrames.{filled}
 use Rattle.papergrid_draw.specs.ForProofs.Pages.{row_start, text_start}
-use Rattle.papergrid_draw.specs.ForProofs.Sheets.{WritesLines, margined, first_text_lines, told_texts}
+use Rattle.papergrid_draw.specs.ForProofs.Sheets.{WritesLines, margined, first_text_lines}
+use Rattle.papergrid_draw.proofs.SheetLemmas.{told_texts}
 use Rattle.papergrid_draw.proofs.PrinterLemmas.{length-rule_lines, margined-cut, margined-lines, row-after, text-after}
 use Rattle.papergrid_draw.proofs.filled_frame.FilledFrame.draw_plain_row.Goals as goal
 

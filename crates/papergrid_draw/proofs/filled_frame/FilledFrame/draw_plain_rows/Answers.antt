@@ -4,7 +4,8 @@ use Rattle.std.proofs.lemmas.Result.{err_from_is_err_and}
 use Rattle.papergrid_draw.specs.Drawn.{rule_lines}
 use Rattle.papergrid_draw.specs.ForProofs.FilledFrames.{filled, filled_table}
 use Rattle.papergrid_draw.specs.ForProofs.Pages.{row_start}
-use Rattle.papergrid_draw.specs.ForProofs.Sheets.{WritesLines, margined, told_texts}
+use Rattle.papergrid_draw.specs.ForProofs.Sheets.{WritesLines, margined}
+use Rattle.papergrid_draw.proofs.SheetLemmas.{told_texts}
 use Rattle.papergrid_draw.proofs.SheetLemmas.{lines-none}
 use Rattle.papergrid_draw.proofs.PrinterLemmas.{drawn-all, drawn-cut, first_rows-next}
 use Rattle.papergrid_draw.proofs.filled_frame.FilledFrame.draw_plain_rows.Goals as goal

@@ -2,7 +2,8 @@ use Rattle.std.proofs.Common.{◌≡◌, ◌∙◌, ◌+◌, ◌<◌, Ok, drop, 
 use Rattle.std.proofs.lemmas.Result.{err_from_is_err_and}
 use Rattle.papergrid_draw.specs.Drawn.{rule_lines}
 use Rattle.papergrid_draw.specs.ForProofs.FilledFrames.{filled}
-use Rattle.papergrid_draw.specs.ForProofs.Sheets.{AtRow, WritesLines, margined, told_texts}
+use Rattle.papergrid_draw.specs.ForProofs.Sheets.{AtRow, WritesLines, margined}
+use Rattle.papergrid_draw.proofs.SheetLemmas.{told_texts}
 use Rattle.papergrid_draw.proofs.SheetLemmas.{lines-none, lines-refused}
 use Rattle.papergrid_draw.proofs.PrinterLemmas.{drawn-all, drawn-cut, first_rows-next, row-first, rule-last, whole-back}
 use Rattle.papergrid_draw.proofs.filled_frame.FilledFrame.draw_spanned_rows.Goals as goal

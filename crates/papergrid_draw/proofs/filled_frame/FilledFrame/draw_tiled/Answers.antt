@@ -1,6 +1,6 @@
 use Rattle.std.proofs.lemmas.Result.{err_from_is_err_and}
 use Rattle.papergrid_draw.specs.ForProofs.FilledFrames.{filled}
-use Rattle.papergrid_draw.specs.ForProofs.Sheets.{told_texts}
+use Rattle.papergrid_draw.proofs.SheetLemmas.{told_texts}
 use Rattle.papergrid_draw.proofs.DeliveryLemmas.{draws-refused, draws-written}
 use Rattle.papergrid_draw.proofs.RefusalLemmas.{found-drawable, large-refusal, room-refusal, width-found}
 use Rattle.papergrid_draw.proofs.filled_frame.FilledFrame.draw_tiled.Goals as goal

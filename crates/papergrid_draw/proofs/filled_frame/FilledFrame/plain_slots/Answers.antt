@@ -2,7 +2,7 @@ use Rattle.std.proofs.Common.{arith}
 use Rattle.papergrid_values.specs.Positions.{position_of}
 use Rattle.papergrid_draw.specs.ForProofs.FilledFrames.{filled}
 use Rattle.papergrid_draw.specs.ForProofs.Pages.{IsSlot, text_start}
-use Rattle.papergrid_draw.specs.ForProofs.Sheets.{told_texts}
+use Rattle.papergrid_draw.proofs.SheetLemmas.{told_texts}
 use Rattle.papergrid_draw.proofs.PlainLemmas.{one-more, plain-inside, plain-slot}
 use Rattle.papergrid_draw.proofs.RuleLemmas.{column-in, columns-all}
 use Rattle.papergrid_draw.proofs.filled_frame.FilledFrame.plain_slots.Goals as goal

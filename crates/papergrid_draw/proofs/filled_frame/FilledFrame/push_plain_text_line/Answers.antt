@@ -5,7 +5,7 @@ use Rattle.papergrid_draw.specs.Bytes.{pieces_bytes}
 use Rattle.papergrid_draw.specs.Contents.{block_at, content}
 use Rattle.papergrid_draw.specs.Drawn.{column_pieces, vertical_pieces}
 use Rattle.papergrid_draw.specs.ForProofs.FilledFrames.{filled}
-use Rattle.papergrid_draw.specs.ForProofs.Sheets.{told_texts}
+use Rattle.papergrid_draw.proofs.SheetLemmas.{told_texts}
 use Rattle.papergrid_draw.proofs.LineLemmas.{added-pieces, column-more, frame-columns, line-done}
 use Rattle.papergrid_draw.proofs.PlainLemmas.{plain-column}
 use Rattle.papergrid_draw.proofs.RuleLemmas.{columns-all}

@@ -1,7 +1,7 @@
 use Rattle.std.proofs.Common.{◌≡◌, ◌<◌, length, ap, subst, arith}
 use Rattle.papergrid_draw.specs.ForProofs.FilledFrames.{filled, filled_table}
 use Rattle.papergrid_draw.specs.ForProofs.Pages.{AreSlotsSet}
-use Rattle.papergrid_draw.specs.ForProofs.Sheets.{told_texts}
+use Rattle.papergrid_draw.proofs.SheetLemmas.{told_texts}
 use Rattle.papergrid_draw.proofs.filled_frame.FilledFrame.set_row.Goals as goal
 
 pub set-requires : goal.set-requires

@@ -1,7 +1,7 @@
 use Rattle.std.proofs.Common.{subst}
 use Rattle.std.specs.Prelude.{string_bytes}
 use Rattle.papergrid_text.specs.HeldRows.{column_count}
-use Rattle.papergrid_tracks.specs.ForProofs.BySizing.{AreSizes}
+use Rattle.papergrid_tracks.proofs.BySizing.{AreSizes}
 use Rattle.papergrid_values.specs.declared.direction.Direction.TheVariants.{Columns}
 use Rattle.papergrid_config.specs.Grids.{spanned_grid}
 use Rattle.papergrid_walk.specs.Measures.{line_measure}

@@ -3,7 +3,7 @@ use Rattle.std.specs.List.{slice_get}
 use Rattle.std.specs.Vec.Iter.{into_iter_items}
 use Rattle.std.proofs.lemmas.List.{nil_from_length}
 use Rattle.std.proofs.lemmas.Option.{slice_get_within}
-use Rattle.papergrid_maps.specs.MapCalls.{may_grow}
+use Rattle.papergrid_maps.specs.MapCalls.{HasEqualClones, may_grow}
 use Rattle.papergrid_maps.specs.StoredMap.{AppendsCalls}
 use Rattle.papergrid_maps.proofs.Applied.{all_told, applied_more, holds_at, next_call, next_fits, told_so_far, true_from}
 use Rattle.papergrid_maps.proofs.MapHistory.{appends_more}
@@ -38,3 +38,8 @@ returns-in-Err-clause-blamed g c = rw (failed g c) (true_from _ c.in-Err.ensures
 
 pub returns-in-Err-clause-free : goal.returns-in-Err-clause-free
 returns-in-Err-clause-free g c = λ none_grow. c.in-Err.ensures.free (holds_at (λ call. may_grow call ≡ false) _ _ _ (failed g c) none_grow)
+
+pub apply-requires : goal.apply-requires
+apply-requires g c = record {
+  equal_clones = holds_at (HasEqualClones g.T.Clone.is_clone) _ _ _ (next_call c.in-Some.call c.in-Some.ensures.steps.0 c.into_iter-call-iterator.ensures.into_iter_gives.0 c.loop-call.invariant) c.requires.equal_clones;
+}

@@ -5,9 +5,9 @@ use Rattle.papergrid_values.specs.declared.indent.Indent.{Indent}
 use Rattle.papergrid_values.specs.declared.position.Position.{Position}
 use Rattle.papergrid_values.specs.declared.sides.Sides.{Sides}
 use Rattle.papergrid_tables.specs.StoredBorders.{StoredBorders}
-use Rattle.papergrid_tables.specs.ForProofs.Made.{borders_made}
-use Rattle.papergrid_maps.specs.ForProofs.Made.{spans_made}
-use Rattle.papergrid_maps.specs.ForProofs.MapSearch.{effective_value}
+use Rattle.papergrid_tables.proofs.Made.{borders_made}
+use Rattle.papergrid_maps.proofs.Made.{spans_made}
+use Rattle.papergrid_maps.proofs.MapSearch.{effective_value}
 use Rattle.papergrid_maps.specs.Grids.{Grid, size_after, size_before}
 use Rattle.papergrid_maps.specs.Spans.{Spans, span_along}
 use Rattle.papergrid_maps.specs.Visible.{is_visible}

@@ -7,14 +7,15 @@ use Rattle.papergrid_values.specs.declared.direction.Direction.TheVariants.{Colu
 use Rattle.papergrid_tracks.specs.Problem.{Problem, total_of}
 use Rattle.papergrid_tracks.specs.Ranges.{position_of}
 use Rattle.papergrid_tracks.specs.Sizes.{sizes_of}
-use Rattle.papergrid_tracks.specs.Least.{least_of}
-use Rattle.papergrid_tracks.specs.CriticalPath.{critical_path}
+use Rattle.papergrid_tracks.proofs.CriticalPathLemmas.{critical_path}
+use Rattle.papergrid_tracks.proofs.HighestLemmas.{least_of}
 use Rattle.papergrid_walk.specs.Cells.{problem_of}
 use Rattle.papergrid_maps.specs.Grids.{Grid}
-use Rattle.papergrid_config.specs.ForProofs.Made.{grid_of}
+use Rattle.papergrid_config.proofs.Made.{grid_of}
 use Rattle.papergrid_walk.specs.Measures.{text_measure}
 use Rattle.papergrid_layout.specs.Answers.{first_out_of_table}
-use Rattle.papergrid_layout.specs.Certificates.{Solution, certificate_by_shares}
+use Rattle.papergrid_layout.specs.Certificates.{Solution}
+use Rattle.papergrid_layout.proofs.Told.{certificate_by_shares}
 use Rattle.papergrid_tracks.specs.declared.sizing.Sizing.{Sizing}
 use Rattle.papergrid_tracks.specs.declared.sizing.Sizing.TheVariants.{ByShares, Least}
 use Rattle.papergrid_script.specs.Estimates.{Estimate, OutOfTable, TooLarge, Sized}

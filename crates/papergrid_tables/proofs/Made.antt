@@ -1,7 +1,7 @@
 -- The border table that calls make: what the calls leave, for each part that one of them names.
 use Rattle.std.specs.Prelude.{ℕ, List, [], ◌∷◌, flat_map, reverse}
 use Rattle.papergrid_values.specs.declared.position.Position.{Position}
-use Rattle.papergrid_values.specs.Tabulated.{tabulation}
+use Rattle.papergrid_values.proofs.Tabulated.{tabulation}
 use Rattle.papergrid_tables.specs.BorderCalls.{BorderCall, InsertBorder, InsertHorizontalLine, InsertVerticalLine, below, right_of}
 use Rattle.papergrid_tables.specs.StoredBorders.{StoredBorders}
 use Rattle.papergrid_tables.specs.BorderParts.{parts_from}

@@ -1,10 +1,10 @@
 -- The spans that calls make: what the calls decide, at each anchor that one of them names.
 use Rattle.std.specs.Prelude.{List, [], ◌∷◌, flat_map, reverse}
 use Rattle.papergrid_values.specs.declared.position.Position.{Position}
-use Rattle.papergrid_values.specs.Tabulated.{tabulation}
+use Rattle.papergrid_values.proofs.Tabulated.{tabulation}
 use Rattle.papergrid_values.specs.declared.direction.Direction.TheVariants.{Columns, Rows}
 use Rattle.papergrid_maps.specs.Spans.{SetSpan, SpanCall, Spans, from_two}
-use Rattle.papergrid_maps.specs.ForProofs.SpanSearch.{effective_span}
+use Rattle.papergrid_maps.proofs.SpanSearch.{effective_span}
 
 -- the position whose span a call sets
 abbrev pub named_anchors : SpanCall → List Position

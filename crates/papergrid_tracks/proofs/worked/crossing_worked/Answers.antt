@@ -1,0 +1,23 @@
+-- The sizes and the path that are computed are those of which the definitions tell.
+use Rattle.std.proofs.Common.{ℕ, refl, arith}
+use Rattle.std.specs.Prelude.{All}
+use Rattle.std.proofs.lemmas.List.Elements.{All-from_recursion}
+use Rattle.papergrid_tracks.specs.Crossing.{crossing_cells}
+use Rattle.papergrid_tracks.specs.Ranges.{IsInTable}
+use Rattle.papergrid_tracks.proofs.LeastLemmas.{furthest_right-is}
+use Rattle.papergrid_tracks.proofs.PathBackLemmas.{critical_path-is}
+use Rattle.papergrid_tracks.proofs.worked.crossing_worked.Goals as goal
+
+table : (minimum : ℕ) → All (IsInTable 3) (crossing_cells minimum).demands
+table minimum = All-from_recursion (IsInTable 3) (crossing_cells minimum).demands
+    (record { covers_one = omega arith; ends_within = omega arith }, (record { covers_one = omega arith; ends_within = omega arith }, tt))
+
+pub returns : goal.returns
+returns c = record {
+  by_shares = refl;
+  least = (furthest_right-is (crossing_cells 4) (table 4) _).1 refl;
+  certified = (critical_path-is (crossing_cells 4) (table 4) _).1 refl;
+  larger_shares = refl;
+  larger_least = (furthest_right-is (crossing_cells 10) (table 10) _).1 refl;
+  larger_certified = (critical_path-is (crossing_cells 10) (table 10) _).1 refl;
+}
