@@ -1,6 +1,5 @@
 -- What is equal is the same, where that holds of each value.
-use Rattle.std.proofs.Common.{◌≡◌, ℕ, Bool, true, false, List, [], ◌∷◌, Option, Some, None, refl, ap, subst}
-use Rattle.std.specs.Prelude.{slice_index_or}
+use Rattle.std.proofs.Common.{◌≡◌, Bool, true, false, List, [], ◌∷◌, Option, Some, None, refl, ap, subst, arith}
 use Rattle.std.specs.Cmp.{nat_cmp_total}
 use Rattle.std.specs.Cmp.Lexicographic.{bytes_decides}
 use Rattle.std.specs.FinMap.{FinMap, get, nat_cmp-IsAntisymmetric, same_map}
@@ -88,14 +87,7 @@ exact_optional x y h = cc
 
 module _ {T : Type 0} (eq : T → T → Bool) (exact : IsExact eq) where
   pub exact_sides : IsExact (sides_eq eq)
-  exact_sides x y h =
-      let parts = and_four h in
-      λ i. record {
-        top = exact x.top y.top parts.0 i;
-        bottom = exact x.bottom y.bottom parts.1 i;
-        left = exact x.left y.left parts.2 i;
-        right = exact x.right y.right parts.3 i;
-      }
+  exact_sides x y h = grind arith
 
   pub exact_map : IsExact (stored_eq eq)
   exact_map m n h =
@@ -114,38 +106,14 @@ module _ {T : Type 0} (eq : T → T → Bool) (exact : IsExact eq) where
       λ i. exact_option eq exact x y a.0 i ∷ exact_parts xs ys a.1 i
   exact_parts xs ys h = cc
 
-  -- the part at an index of equal lists
-  part : {xs ys : List (Option T)} (k : ℕ) → xs ≡ ys → slice_index_or xs k None ≡ slice_index_or ys k None
-  part k is = ap (λ ps. slice_index_or ps k None) is
-
   frame_is : (f g : Borders T) → frame_parts f ≡ frame_parts g → f ≡ g
-  frame_is f g is = λ i. record {
-    top = part 0 is i;
-    top_left = part 1 is i;
-    top_right = part 2 is i;
-    top_intersection = part 3 is i;
-    bottom = part 4 is i;
-    bottom_left = part 5 is i;
-    bottom_right = part 6 is i;
-    bottom_intersection = part 7 is i;
-    horizontal = part 8 is i;
-    vertical = part 9 is i;
-    intersection = part 10 is i;
-    left = part 11 is i;
-    left_intersection = part 12 is i;
-    right = part 13 is i;
-    right_intersection = part 14 is i;
-  }
+  frame_is f g is = grind arith
 
   exact_horizontal_line : IsExact (λ (l m : HorizontalLine T). same_parts eq (horizontal_parts l) (horizontal_parts m))
-  exact_horizontal_line l m h =
-      let is = exact_parts (horizontal_parts l) (horizontal_parts m) h in
-      λ i. record { main = part 0 is i; intersection = part 1 is i; left = part 2 is i; right = part 3 is i }
+  exact_horizontal_line l m h = grind arith
 
   exact_vertical_line : IsExact (λ (l m : VerticalLine T). same_parts eq (vertical_parts l) (vertical_parts m))
-  exact_vertical_line l m h =
-      let is = exact_parts (vertical_parts l) (vertical_parts m) h in
-      λ i. record { main = part 0 is i; intersection = part 1 is i; top = part 2 is i; bottom = part 3 is i }
+  exact_vertical_line l m h = grind arith
 
   pub exact_borders : IsExact (borders_eq eq)
   exact_borders s t h =

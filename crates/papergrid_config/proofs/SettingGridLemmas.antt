@@ -1,5 +1,5 @@
 -- What a walk reads of a configuration with settings as its history is what the settings decide.
-use Rattle.std.proofs.Common.{◌≡◌, ◌∙◌, ◌<◌, ◌≤◌, ◌&&◌, ℕ, Bool, true, false, List, [], ◌∷◌, ap, arith, inl, inr, nat_le, refl, subst, sym}
+use Rattle.std.proofs.Common.{◌≡◌, ◌∙◌, ◌≤◌, ◌&&◌, ℕ, Bool, true, false, List, [], ◌∷◌, ap, arith, inl, inr, nat_le, refl, subst, sym, rules}
 use Rattle.std.specs.Prelude.{◌↔◌, IsTrue, flat_map, reverse, unwrap_or}
 use Rattle.std.proofs.lemmas.Bool.{cases_Bool}
 use Rattle.std.proofs.lemmas.Bool.Decides.{nat_tests}
@@ -9,7 +9,6 @@ use Rattle.papergrid_values.specs.declared.position.Position.{Position}
 use Rattle.papergrid_values.specs.declared.direction.Direction.{Direction}
 use Rattle.papergrid_values.specs.declared.direction.Direction.TheVariants.{Columns, Rows}
 use Rattle.papergrid_tables.specs.BorderParts.{HasLine, parts_from}
-use Rattle.papergrid_tables.specs.ForProofs.LineTested.{line_test}
 use Rattle.papergrid_tables.proofs.MadeTables.{border_history, borders_made_history}
 use Rattle.papergrid_maps.specs.StoredMap.{stored_value}
 use Rattle.papergrid_maps.specs.Grids.{Grid, size_after, size_before}
@@ -59,10 +58,7 @@ span_from-some d p (SetSpan e q n ∷ older) = elim (cases_Bool (is_same_directi
     some false b c is t = cc
 
 from_two-back : (n : ℕ) → 1 ≤ n → unwrap_or (from_two n) 1 ≡ n
-from_two-back n least = elim (cases_Bool (nat_le 2 n)) [
-  | inl t ↦ rw t refl
-  | inr f ↦ rw f (let below : n < 2 = grind (arith, nat_tests, f) in omega arith)
-]
+from_two-back n least = grind arith
 
 -- the span that is read where the calls are the history
 pub span-effective : (calls : List SpanCall) (stored : Spans) → spans.HasSpanHistory calls stored → (direction : Direction) (p : Position) → span_along stored direction p ≡ effective_span direction p calls
@@ -73,9 +69,7 @@ span-effective calls stored told Rows p = ap (λ o. unwrap_or o 1) (spans_of_his
 
 lines-decided : (settings : List Setting) (direction : Direction) (i count : ℕ) →
     IsTrue (line_along (characters_of settings) direction count i) ↔ HasLine direction (parts_from (reverse (flat_map character_calls settings))) i count
-lines-decided settings direction i count =
-    subst (λ parts. IsTrue (line_along (characters_of settings) direction count i) ↔ HasLine direction parts i count) (borders_made_history (flat_map character_calls settings))
-    (line_test (characters_of settings) direction count i).1
+lines-decided settings direction i count = search (rules, characters_of, borders_made_history)
 
 pub is-grid : (settings : List Setting) → IsGridOf settings (grid_of settings)
 unfolding grid_of

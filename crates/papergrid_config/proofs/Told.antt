@@ -20,9 +20,6 @@ use Rattle.papergrid_config.specs.declared.spanned.SpannedConfig.{SpannedConfig}
 pub record HasPart {C V : Type 0} (IsTold : List C → V → Type 0) (calls : Setting → List C) (before further : List Setting) (value : V) : Type 0 where
   pub told : IsTold (flat_map calls before ++ flat_map calls further) value
 
-abbrev pub calls_before : {C V : Type 0} {IsTold : List C → V → Type 0} {calls : Setting → List C} {before further : List Setting} {value : V} → HasPart IsTold calls before further value → List C
-calls_before {calls = calls} {before = before} part = flat_map calls before
-
 kept : {C V : Type 0} {IsTold : List C → V → Type 0} {calls : Setting → List C} {before : List Setting} {value : V}
     → IsTold (flat_map calls before) value → HasPart IsTold calls before [] value
 kept {IsTold = IsTold} {calls = calls} {before = before} {value = value} told = record { told = subst (λ xs. IsTold xs value) (sym (append-nil (flat_map calls before))) told }

@@ -33,10 +33,7 @@ use Rattle.papergrid_maps.proofs.IndexKeys.{stored_at, key_key}
 -- ---- order
 
 less-before : (p q : Position) → position_cmp p q ≡ Less → IsBefore p q
-less-before p q h = elim (cases_lt p.row q.row) [
-  | inl above ↦ inl above
-  | inr level ↦ inr (grind (arith, h, level), grind (arith, h, level))
-]
+less-before p q h = grind (arith, cases_lt)
 
 at-index : {X : Type 0} (P : X → Type 0) (xs : List X) (k : ℕ) (x : X) → AllByRecursion P xs → slice_get xs k ≡ Some x → P x
 at-index P [] k x all is = absurd (none-some x is)
@@ -48,9 +45,7 @@ pub sorted-from_rising : (anchors : List Anchor) → IsRising anchors → IsSort
 unfolding IsStrictlySortedBy
 sorted-from_rising [] rising j k a b h e f = absurd (none-some a e)
 sorted-from_rising (x ∷ xs) rising j zero a b h e f = absurd (omega (arith, h))
-sorted-from_rising (x ∷ xs) rising zero (suc k) a b h e f =
-    less-before a.position b.position (subst (λ y. position_cmp y.position b.position ≡ Less) (same_Some x a e)
-    (at-index (λ y. position_cmp x.position y.position ≡ Less) xs k b rising.0 f))
+sorted-from_rising (x ∷ xs) rising zero (suc k) a b h e f = grind (arith, less-before, same_Some, at-index)
 sorted-from_rising (x ∷ xs) rising (suc j) (suc k) a b h e f = sorted-from_rising xs rising.1 j k a b (omega (arith, h)) e f
 
 abbrev pub same_position : Anchor → Anchor → Bool
@@ -116,10 +111,7 @@ module _ (at : Position → Anchor) where
       }
 
   pub at-wider : (H K : Position → Type 0) (xs : List Anchor) → ((p : Position) → H p ↔ K p) → AreAt at H xs → AreAt at K xs
-  at-wider H K xs same are = record {
-    made = are.made;
-    has = λ p. ((λ found. (same p).0 ((are.has p).0 found)), (λ stored. (are.has p).1 ((same p).1 stored)));
-  }
+  at-wider H K xs same are = grind arith
 
 stored-above-one : (o : Option ℕ) → 2 ≤ unwrap_or o 1 → IsSome o
 stored-above-one None h = absurd (omega (arith, h))
@@ -137,39 +129,19 @@ module _ (columns rows : FinMap position_cmp ℕ) (anchors : List Anchor)
   made-at k a h = All-contains (λ b. b ≡ anchor_at (get columns) (get rows) b.position) anchors a are.made (contains-got anchors k a h)
 
   has-anchor : (p : Position) → IsSome (get columns p) ⊎ IsSome (get rows p) → HasAnchor anchors p
-  has-anchor p stored =
-      let found = (are.has p).1 stored in
-      record {
-        index = found.0;
-        anchor = anchor_at (get columns) (get rows) p;
-        is_anchor = slice_get-get_or anchors found.0 (anchor_at (get columns) (get rows) p) found.1 ∙ ap (λ a. Some a) found.2;
-        is_there = refl;
-      }
+  has-anchor p stored = grind (arith, slice_get-get_or)
 
   pub anchors-of : AreAnchors (span_along (record { columns = columns; rows = rows })) anchors
-  anchors-of = record {
-    has_rows = λ k a h. ap (λ (b : Anchor). b.rows) (made-at k a h);
-    has_cols = λ k a h. ap (λ (b : Anchor). b.cols) (made-at k a h);
-    has_each = λ d p. elim d as (λ d. 2 ≤ span_along (record { columns = columns; rows = rows }) d p → HasAnchor anchors p) [
-      | Columns ↦ λ h. has-anchor p (inl (stored-above-one (get columns p) h))
-      | Rows ↦ λ h. has-anchor p (inr (stored-above-one (get rows p) h))
-    ];
-  }
+  anchors-of = grind (arith, made-at, has-anchor, stored-above-one)
 
   pub anchors-stored : (p : Position) → HasAnchor anchors p → IsSome (get columns p) ⊎ IsSome (get rows p)
-  anchors-stored p has =
-      let is : has.anchor ≡ anchor_at (get columns) (get rows) p =
-      made-at has.index has.anchor has.is_anchor ∙ ap (anchor_at (get columns) (get rows)) has.is_there in
-      (are.has p).0 (subst (Contains anchors) is (contains-got anchors has.index has.anchor has.is_anchor))
+  anchors-stored p has = grind (arith, made-at, contains-got)
 
 -- ---- the entries of an index
 
 -- the image of an element
 image : {X Y : Type 0} (f : X → Y) (xs : List X) (x : X) → Contains xs x → Contains (map f xs) (f x)
-image f xs x found =
-    let lt = found.1 in
-    let long = length-map xs f in
-    (found.0, omega arith, get_or-map f xs found.0 x (f x) lt ∙ ap f found.2)
+image f xs x found = grind (arith, length-map, get_or-map)
 
 along-position : (d : Direction) (own others : Position → Option ℕ) (p : Position) → (anchor_along d own others p).position ≡ p
 along-position Columns own others p = refl
@@ -230,9 +202,7 @@ module _ (columns rows : DirectedSpans) (by_columns : columns.direction ≡ Colu
   -- where no row span is stored
   pub alone-at : (xs : List Anchor) → AreAt (anchor_along columns.direction (get columns.spans) (get rows.spans)) (λ p. IsSome (get columns.spans p)) xs →
       (HasSpan rows.spans → ⊥) → AreAt (anchor_at (get columns.spans) (get rows.spans)) IsStored xs
-  alone-at xs are none =
-      at-wider (anchor_at (get columns.spans) (get rows.spans)) (λ p. IsSome (get columns.spans p)) IsStored xs
-      (λ p. (inl, λ stored. elim stored [ inl wide ↦ wide | inr tall ↦ absurd (none (p, tall)) ])) (column_anchors xs are)
+  alone-at xs are none = grind (arith, at-wider, column_anchors)
 
   pub joined-at : (xs ys sorted : List Anchor) → rows.direction ≡ Rows →
       AreAt (anchor_along columns.direction (get columns.spans) (get rows.spans)) (λ p. IsSome (get columns.spans p)) xs →

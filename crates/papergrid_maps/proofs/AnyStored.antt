@@ -50,9 +50,7 @@ index_of_value (e ∷ es) (suc i) x within is = index_of_value es i x (omega (ar
 
 module _ {K X : Type 0} {E : K → K → Bool} (laws : IsEquivalence E) (P : X → Type 0) (es : List (K × X)) where
   value_by_key : IsDistinct E (keys_of es) → Any P (values_of es) → (k : K) × (x : X) × (lookup (E k) es ≡ Some x) × P x
-  value_by_key distinct any =
-      let position = index_of_value es any.0 any.1 any.2 any.3 in
-      (position.0, any.1, lookup_from_place laws es any.0 position.0 any.1 distinct position.1, any.4)
+  value_by_key distinct any = grind (arith, index_of_value, lookup_from_place)
 
 all_values : {K X : Type 0} (P : X → Type 0) (es : List (K × X)) → All P (values_of es) → All (λ e. P e.1) es
 all_values P [] all i d within = absurd (omega (arith, within))

@@ -1,5 +1,5 @@
 -- The anchors that both directions hold, after a change of one direction, and what their rectangles reach.
-use Rattle.std.proofs.Common.{◌≡◌, ℕ, ◌+◌, ◌-◌, ◌<◌, true, false, cond, ◌&&◌, ltb, [], Option, Some, None, refl, sym, ap, subst, ◌∙◌, arith}
+use Rattle.std.proofs.Common.{◌≡◌, ℕ, ◌+◌, ◌-◌, ◌<◌, true, false, cond, ◌&&◌, ltb, [], Option, Some, None, refl, sym, ap, ◌∙◌, arith}
 use Rattle.std.specs.Prelude.{◌↔◌, unwrap_or}
 use Rattle.std.specs.BTreeMap.{BTreeMap, IsOrdered, get as tree_get, is_at}
 use Rattle.std.specs.BTreeMap.Range.{entries_between}
@@ -83,13 +83,7 @@ module _ (d : Direction) (own own' others : Position → Option ℕ) (both both'
   -- a span with none of the other direction
   pub alone_stored : (span : ℕ) → ((p : Position) → own' p ≡ cond (eq_by_cmp position_cmp p position) (Some span) (own p)) → ((p : Position) → both' p ≡ both p) → others position ≡ None
       → (p : Position) → both' p ≡ extent_stored d (own' p) (others p)
-  alone_stored span own_is both_is alone =
-      changes (Some span) (both position) own_is
-      (λ p. both_is p ∙ elim (eq_by_cmp position_cmp position p) as (λ b. eq_by_cmp position_cmp position p ≡ b → both p ≡ cond b (both position) (both p)) [
-        | true ↦ λ same. ap both (sym (exact_position_eq position p (position_ties position p ∙ same)))
-        | false ↦ λ apart. refl
-      ] refl)
-      (stored position ∙ ap (extent_stored d (own position)) alone ∙ no_other d (own position) ∙ sym (no_other d (Some span)) ∙ ap (extent_stored d (Some span)) (sym alone))
+  alone_stored span own_is both_is alone = grind (arith, changes, exact_position_eq, position_ties, no_other)
 
 -- what is stored anew and dropped again was not there
 pub stored_and_dropped : (spans : FinMap position_cmp ℕ) (position : Position) (n : ℕ) → get spans position ≡ None → remove (insert spans position n) position ≡ spans
@@ -140,16 +134,4 @@ both_reached both p ordered =
 -- in the words of rectangles
 pub inside_reached : (index : DirectedSpans) (others : FinMap position_cmp ℕ) (both : BTreeMap Position Extent) → index.direction ≡ Columns → HoldsBoth index others both → (p : Position)
     → let spans : Spans = record { columns = index.spans; rows = others } in IsReachedByBoth both p ↔ IsCoveredByBoth (span_along spans) p
-inside_reached index others both is holds p =
-    let stored : (q : Position) → tree_get position_cmp both q ≡ extent_stored Columns (get index.spans q) (get others q) = λ q. holds q ∙ ap (λ d. extent_stored d (get index.spans q) (get others q)) is in (
-      λ h.
-          let k = h.0 in
-          let two = parts (get index.spans k) (get others k) h.1 (sym (stored k) ∙ h.2) in
-          (k, h.3, rw two.1 h.4, h.5, rw two.0 h.6),
-      λ h.
-          let k = h.0 in
-          let tall = stored_above_one (get others k) k.row p.row h.1 h.2 in
-          let wide = stored_above_one (get index.spans k) k.col p.col h.3 h.4 in
-          let e : Extent = record { columns = wide.0; rows = tall.0 } in
-          (k, e, stored k ∙ (λ i. extent_stored Columns (wide.1 i) (tall.1 i)), h.1, subst (λ o. p.row < k.row + unwrap_or o 1) tall.1 h.2, h.3, subst (λ o. p.col < k.col + unwrap_or o 1) wide.1 h.4),
-    )
+inside_reached index others both is holds p = grind (arith, parts, stored_above_one)

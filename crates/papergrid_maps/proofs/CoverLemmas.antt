@@ -1,6 +1,6 @@
 -- What the positions that a rectangle covers say of visibility.
-use Rattle.std.proofs.Common.{◌≡◌, ℕ, ◌+◌, ◌-◌, ◌<◌, ◌≤◌, Bool, true, false, List, get_or, leb, ltb, Option, Some, None, refl, sym, ap, subst, ◌∙◌, arith, inl, inr}
-use Rattle.std.specs.Prelude.{All, AllPairs, unwrap_or, not, is_some, ◌≢◌, ◌↔◌, ◌⊎◌, IsTrue}
+use Rattle.std.proofs.Common.{◌≡◌, ℕ, ◌+◌, ◌-◌, ◌<◌, ◌≤◌, Bool, true, false, List, get_or, Option, Some, None, refl, sym, ap, subst, ◌∙◌, arith, inl, inr}
+use Rattle.std.specs.Prelude.{All, AllPairs, unwrap_or, is_some, ◌≢◌, ◌↔◌, ◌⊎◌, IsTrue}
 use Rattle.std.specs.BTreeMap.{BTreeMap, IsOrdered, get as tree_get}
 use Rattle.std.specs.Cmp.{eq_by_cmp_equiv}
 use Rattle.std.specs.FinMap.{FinMap, get}
@@ -14,36 +14,21 @@ use Rattle.papergrid_values.specs.Positions.{AreRising, along}
 use Rattle.papergrid_values.specs.declared.direction.Direction.{Direction}
 use Rattle.papergrid_values.specs.declared.direction.Direction.TheVariants.{Columns, Rows}
 use Rattle.papergrid_values.specs.declared.position.Position.{Position}
-use Rattle.papergrid_values.specs.MapKeys.{position_cmp, position_eq}
+use Rattle.papergrid_values.specs.MapKeys.{position_cmp}
 use Rattle.papergrid_values.proofs.AnyLemmas.{any_found, any_from_found}
 use Rattle.papergrid_values.proofs.KeyLemmas.{exact_position_eq, position_ties, position_total}
 use Rattle.papergrid_maps.specs.Spans.{Spans, span_along, IsInRectangle}
 use Rattle.papergrid_maps.specs.Visible.{is_visible}
 use Rattle.papergrid_maps.specs.ForProofs.SpanIndex.{CoversOne, DirectedSpans, covers, covers_stored, extent_of, stored_along, key_of}
 use Rattle.papergrid_maps.proofs.IndexKeys.{stored_at, key_key}
-use Rattle.papergrid_maps.specs.ForProofs.SpanVisible.{apart_by_test, apart_from_test, visible_test}
+use Rattle.papergrid_maps.specs.ForProofs.SpanVisible.{visible_test}
 
 module _ (span : Direction → Position → ℕ) (a p : Position) where
   covered_inside : covers a (span Columns a) (span Rows a) p ≡ true → (a ≢ p) × IsInRectangle span a p
-  covered_inside h =
-      let apart = and_parts (not (position_eq a p)) _ h in
-      let below = and_parts (leb a.row p.row) _ apart.1 in
-      let above = and_parts (ltb (p.row - a.row) (span Rows a)) _ below.1 in
-      let right = and_parts (leb a.col p.col) _ above.1 in
-      let top : a.row ≤ p.row = leb-true _ _ below.0 in
-      let down : p.row - a.row < span Rows a = ltb-true _ _ above.0 in
-      let left : a.col ≤ p.col = leb-true _ _ right.0 in
-      let wide : p.col - a.col < span Columns a = ltb-true _ _ right.1 in
-      (apart_from_test a p apart.0, record { below_top = top; above_bottom = omega arith; after_left = left; before_right = omega arith })
+  covered_inside h = grind (arith, and_parts, leb-true, ltb-true)
 
   inside_covered : a ≢ p → IsInRectangle span a p → covers a (span Columns a) (span Rows a) p ≡ true
-  inside_covered apart within =
-      let top : a.row ≤ p.row = within.below_top in
-      let down : p.row < a.row + span Rows a = within.above_bottom in
-      let left : a.col ≤ p.col = within.after_left in
-      let wide : p.col < a.col + span Columns a = within.before_right in
-      and_from _ _ (apart_by_test a p apart) (and_from _ _ (le-leb _ _ top) (and_from _ _ (lt-ltb _ _ (omega arith))
-      (and_from _ _ (le-leb _ _ left) (lt-ltb _ _ (omega arith)))))
+  inside_covered apart within = grind (arith, and_from, le-leb, lt-ltb)
 
 -- ---- what lies past the rectangle, by the number that rises
 
@@ -54,10 +39,7 @@ same_spans columns rows Rows p = rows
 
 module _ (a : Position) (columns rows : ℕ) (p : Position) where
   not_covered : (IsInRectangle (same_spans columns rows) a p → ⊥) → covers a columns rows p ≡ false
-  not_covered none = elim (cases_Bool (covers a columns rows p)) [
-    | inl t ↦ absurd (none (covered_inside (same_spans columns rows) a p t).1)
-    | inr f ↦ f
-  ]
+  not_covered none = grind (arith, cases_Bool, covered_inside)
 
   pub none_before : (direction : Direction) → along direction p < along direction a → covers a columns rows p ≡ false
   none_before Columns l = not_covered (λ within. omega (arith, l, within.after_left))
@@ -68,12 +50,7 @@ module _ (a : Position) (columns rows : ℕ) (p : Position) where
   none_past Rows l = not_covered (λ within. omega (arith, l, within.above_bottom))
 
 pub never_falls : (direction : Direction) (positions : List Position) → AllPairs (AreRising direction) positions → IsNonDecreasingBy (along direction) positions
-never_falls direction positions rises i j d le l = elim (cases_eq i j) [
-  | inl e ↦ rw e (omega arith)
-  | inr ne ↦
-      let lt : along direction (get_or positions i d) < along direction (get_or positions j d) = rises i j d (omega arith) l in
-      omega arith
-]
+never_falls direction positions rises i j d le l = grind (arith, cases_eq)
 
 -- ---- what the entries of an index cover
 
@@ -84,7 +61,6 @@ module _ (d : Direction) (m : BTreeMap Position ℕ) (others : FinMap position_c
 
   pub entries_cover : IsOrdered position_cmp m → (list_any (covers_stored d others positions) m.entries ≡ true) ↔ CoversOne (record { direction = d; spans = stored_along d m.entries }) others positions
   entries_cover ordered =
-      let own = stored_along d m.entries in
       let laws = eq_by_cmp_equiv position_total in
       let other : Position → ℕ = λ a. unwrap_or (get others a) 1 in
       let in_one : Position → ℕ → Bool = λ a n. list_any (covers a ((extent_of d n (other a)).columns) ((extent_of d n (other a)).rows)) positions in (
@@ -94,7 +70,7 @@ module _ (d : Direction) (m : BTreeMap Position ℕ) (others : FinMap position_c
             let span = span_of found.0 found.1 found.2 in
             (a, subst (λ o. is_some o ≡ true) (sym span) refl, subst (λ o. in_one a (unwrap_or o 1) ≡ true) (sym span) found.3),
         λ h.
-            let stored = stored_or_none (get own h.0) h.1 in
+            let stored = stored_or_none (get (stored_along d m.entries) h.0) h.1 in
             let k = key_of d h.0 in
             let at_key : tree_get position_cmp m k ≡ Some stored.0 = sym (stored_at d m.entries h.0) ∙ stored.1 in
             let there : in_one h.0 stored.0 ≡ true = subst (λ o. in_one h.0 (unwrap_or o 1) ≡ true) stored.1 h.2 in
@@ -116,8 +92,7 @@ module _ (spans : Spans) (positions : List Position) where
   hidden a h all =
       let found = Any-from_list_any (covers a (span_along spans Columns a) (span_along spans Rows a)) positions h in
       let p = get_or positions found.0 found.1 in
-      let covered : covers a (span_along spans Columns a) (span_along spans Rows a) p ≡ true = rw found.3 found.4 in
-      let inside = covered_inside (span_along spans) a p covered in
+      let inside = covered_inside (span_along spans) a p (rw found.3 found.4) in
       (visible_test spans p).1.0 (all found.0 found.1 found.2) a inside.0 inside.1
 
   -- where neither direction covers a position, all are visible
@@ -131,12 +106,7 @@ module _ (spans : Spans) (positions : List Position) where
         | inl wide ↦ narrow a wide covered
         | inr one ↦ elim (stored (get spans.rows a)) [
           | inl tall ↦ short a tall covered
-          | inr one' ↦
-              let columns_one : span_along spans Columns a ≡ 1 = ap (λ o. unwrap_or o 1) one in
-              let rows_one : span_along spans Rows a ≡ 1 = ap (λ o. unwrap_or o 1) one' in
-              let row : a.row ≡ p.row = omega (arith, rows_one, within.below_top, within.above_bottom) in
-              let col : a.col ≡ p.col = omega (arith, columns_one, within.after_left, within.before_right) in
-              apart (λ i. record { row = row i; col = col i })
+          | inr one' ↦ grind arith
         ]
       ])
     where

@@ -164,9 +164,7 @@ module _ {T : Type 0} (calls : List (MapCall T)) where
       let here = call_at n (omega arith) in
       let found : cond (test here.0) (Some here.0) (find test (newest n)) ≡ Some x = sym (ap (find test) (newest-more n here.0 here.1)) ∙ h in
       elim (chosen (test here.0) (Some here.0) (find test (newest n)) (Some x) found) [
-        | inl this ↦
-            let same = same_Some here.0 x this.1 in
-            (n, record { before = omega arith; at = here.1 ∙ ap Some same; last = λ j other after before at. absurd (omega arith) }, ap test (sym same) ∙ this.0)
+        | inl this ↦ grind (arith, same_Some)
         | inr later ↦
             let rest = find_last test n x (omega arith) later.1 in (
               rest.0,
@@ -188,12 +186,9 @@ module _ {T : Type 0} (calls : List (MapCall T)) where
       let here = call_at n (omega arith) in
       ap (find test) (newest-more n here.0 here.1) ∙ elim (earlier i n h.before) [
         | inl less ↦
-            let fails : test here.0 ≡ false = h.last n here.0 less (omega arith) here.1 in
             let rest = last_find test n i x (omega arith) (record { before = less; at = h.at; last = λ j other after before at. h.last j other after (omega arith) at }) passes in
-            rw fails rest
-        | inr same ↦
-            let this : here.0 ≡ x = same_call n i here.0 x here.1 h.at (sym same) in
-            rw (this, passes) refl
+            rw (h.last n here.0 less (omega arith) here.1) rest
+        | inr same ↦ grind (arith, same_call)
       ]
 
   -- ---- values that stand
@@ -213,8 +208,7 @@ module _ {T : Type 0} (calls : List (MapCall T)) where
       of_found (Some (Remove entity)) is set = cc
 
   entity_is : (e : Entity) → entity_eq Global e ≡ false → (n : ℕ) (v : T) → n ≤ length calls → EntityStands calls e n v → standing_value e (newest n) ≡ Some v
-  entity_is e not_all n v within h =
-      entity_found e (newest n) ∙ ap entity_set (last_find (concerns e) n h.0 (Insert e v) within h.1 (concerns_itself e v)) ∙ set_itself e v not_all
+  entity_is e not_all n v within h = grind (arith, entity_found, last_find, concerns_itself, set_itself)
 
   table_is : (given : T) (n : ℕ) (v : T) → n ≤ length calls → TableStands n v → global_value given (newest n) ≡ v
   table_is given n v within h = table_found given (newest n) ∙ ap (table_set given) (last_find sets_all n h.0 (Insert Global v) within h.1 refl)
@@ -254,9 +248,7 @@ module _ {T : Type 0} (calls : List (MapCall T)) where
   both_hold false b w v h = cc
 
   cell_override_is : (r c n : ℕ) (call : MapCall T) (v : T) → slice_get calls n ≡ Some call → n ≤ length calls → cell_override_of r c (newest n) call ≡ Some v → IsCellOverride calls r c n v
-  cell_override_is r c n (Insert (Cell i j) w) v at within h =
-      let p = both_hold (nat_eq i r) (nat_eq j c) w v h in
-      inl (at ∙ rw (eqb-true i r p.0, eqb-true j c p.1, p.2) refl)
+  cell_override_is r c n (Insert (Cell i j) w) v at within h = grind (arith, both_hold)
   cell_override_is r c n (Insert (Row i) w) v at within h =
       let p = both_hold (nat_eq i r) (is_some (standing_value (Column c) (newest n))) w v h in
       let column = some_value (standing_value (Column c) (newest n)) p.1 in
@@ -270,9 +262,7 @@ module _ {T : Type 0} (calls : List (MapCall T)) where
 
   is_cell_override : (r c n : ℕ) (call : MapCall T) (v : T) → slice_get calls n ≡ Some call → n ≤ length calls → IsCellOverride calls r c n v → cell_override_of r c (newest n) call ≡ Some v
   is_cell_override r c n call v at within h = elim h [
-    | inl cell ↦
-        let same : Insert (Cell r c) v ≡ call = same_call n n _ _ cell at refl in
-        subst (λ d. cell_override_of r c (newest n) d ≡ Some v) same (rw (eq-eqb r r refl, eq-eqb c c refl) refl)
+    | inl cell ↦ grind (arith, same_call)
     | inr other ↦ elim other [
       | inl row ↦
           let same : Insert (Row r) v ≡ call = same_call n n _ _ row.0 at refl in
@@ -286,13 +276,7 @@ module _ {T : Type 0} (calls : List (MapCall T)) where
   cell_override_after : (r c n : ℕ) (call : MapCall T) (v : T) → slice_get calls n ≡ Some call → suc n ≤ length calls → ends_overrides r c call ≡ false
       → (cell_override_value r c (newest n) ≡ Some v → OverrideStands calls r c n v)
       → (o : Option T) → cell_override_of r c (newest n) call ≡ o → or_older o (cell_override_value r c (newest n)) ≡ Some v → OverrideStands calls r c (suc n) v
-  cell_override_after r c n call v at within ends_none rest (Some w) e h = record {
-    index = n;
-    before = omega arith;
-    overrides_cell = cell_override_is r c n call v at (omega arith) (e ∙ h);
-    last = λ j u after before cell_override. absurd (omega arith);
-    counts = λ j other after before at_j. absurd (omega arith);
-  }
+  cell_override_after r c n call v at within ends_none rest (Some w) e h = grind (arith, cell_override_is)
   cell_override_after r c n call v at within ends_none rest None e h =
       let older = rest h in
       record {
@@ -329,7 +313,6 @@ module _ {T : Type 0} (calls : List (MapCall T)) where
       let here = call_at n (omega arith) in
       ap (cell_override_value r c) (newest-more n here.0 here.1) ∙ cell_override_step r c here.0 (newest n) ∙ elim (earlier h.index n h.before) [
         | inl less ↦
-            let goes_on : ends_overrides r c here.0 ≡ false = h.counts n here.0 less (omega arith) here.1 in
             let none : cell_override_of r c (newest n) here.0 ≡ None =
             none_of (cell_override_of r c (newest n) here.0) (λ w e. h.last n w less (omega arith) (cell_override_is r c n here.0 w here.1 (omega arith) e)) in
             let rest = cell_override_found r c n v (omega arith) (record {
@@ -339,11 +322,10 @@ module _ {T : Type 0} (calls : List (MapCall T)) where
               last = λ j w after before cell_override. h.last j w after (omega arith) cell_override;
               counts = λ j other after before at. h.counts j other after (omega arith) at;
             }) in
-            rw (goes_on, none) rest
+            rw ((h.counts n here.0 less (omega arith) here.1), none) rest
         | inr same ↦
             let overrides_cell = is_cell_override r c n here.0 v here.1 (omega arith) (subst (λ (m : ℕ). IsCellOverride calls r c m v) same h.overrides_cell) in
-            let goes_on = cell_override_ends_none r c (newest n) here.0 v overrides_cell in
-            rw (goes_on, overrides_cell) refl
+            rw ((cell_override_ends_none r c (newest n) here.0 v overrides_cell), overrides_cell) refl
       ]
 
   -- ---- what is decided
@@ -355,10 +337,7 @@ module _ {T : Type 0} (calls : List (MapCall T)) where
   is_effective given r c n within = by_cell_override (cell_override_value r c (newest n)) refl
     where
       by_table : NoneHas (OverrideStands calls r c n) → NoneHas (EntityStands calls (Column c) n) → NoneHas (EntityStands calls (Row r) n) → EffectiveOf given r c n (global_value given (newest n))
-      by_table no_cell_override no_column no_row = elim (table_stands given n within) [
-        | inl table ↦ inr (no_cell_override, inr (no_column, inr (no_row, inl table)))
-        | inr none ↦ inr (no_cell_override, inr (no_column, inr (no_row, inr none)))
-      ]
+      by_table no_cell_override no_column no_row = grind (arith, table_stands)
 
       by_row : (o : Option T) → standing_value (Row r) (newest n) ≡ o → NoneHas (OverrideStands calls r c n) → NoneHas (EntityStands calls (Column c) n) → EffectiveOf given r c n (unwrap_or o (global_value given (newest n)))
       by_row (Some v) e no_cell_override no_column = inr (no_cell_override, inr (no_column, inl (entity_stands (Row r) n v within e)))
@@ -400,8 +379,7 @@ module _ {T : Type 0} (calls : List (MapCall T)) where
   all_newest = ap reverse (take_all (length calls) calls (omega arith))
 
   pub effective_value-IsEffective : (given : T) (p : Position) → IsEffective calls given p (effective_value given calls p)
-  effective_value-IsEffective given p =
-      subst (λ (ns : List (MapCall T)). EffectiveOf given p.row p.col (length calls) (decided_by given ns p)) all_newest (is_effective given p.row p.col (length calls) (omega arith))
+  effective_value-IsEffective given p = grind (arith, all_newest, is_effective)
 
   pub IsEffective-only : (given : T) (p : Position) (v : T) → IsEffective calls given p v → v ≡ effective_value given calls p
   IsEffective-only given p v h = sym (effective_is given p.row p.col (length calls) v (omega arith) h) ∙ ap (λ ns. decided_by given ns p) all_newest

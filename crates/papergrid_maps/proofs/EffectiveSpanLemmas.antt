@@ -45,12 +45,7 @@ module _ (d : Direction) (p : Position) where
 
   by_index : (calls before after : List SpanCall) (call : SpanCall) → calls ≡ before ++ call ∷ after → NoneDecides d p after
       → effective_span d p calls ≡ span_from d p (call ∷ reverse before)
-  by_index calls before after call is none =
-      ap (λ cs. span_from d p (reverse cs)) is
-      ∙ ap (span_from d p) (reverse-append before (call ∷ after))
-      ∙ ap (λ cs. span_from d p (cs ++ reverse before)) (newest_last call after)
-      ∙ ap (span_from d p) (append_assoc (reverse after) (call ∷ []) (reverse before))
-      ∙ skip after (call ∷ reverse before) none
+  by_index calls before after call is none = grind (arith, span_from, reverse-append, newest_last, append_assoc, skip)
 
   itself : (n : ℕ) → 1 ≤ n → decides_span d p (SetSpan d p n) ≡ true
   itself n big = and_from _ _ (same_itself d) (and_from _ _ (le-leb 1 n big) (position_equiv.refl p))
@@ -88,18 +83,13 @@ module _ (d : Direction) (p : Position) where
   remove_last : (e : Direction) (older : List SpanCall) → IsEffectiveSpan d p (reverse older) (span_from d p older)
       → (b : Bool) → decides_span d p (RemoveSpans e) ≡ b → IsEffectiveSpan d p (reverse older ++ RemoveSpans e ∷ []) (cond b 1 (span_from d p older))
   remove_last e older rest true is =
-      let direction = same_direction e d is in
-      ByRemoval (reverse older) [] (λ i. reverse older ++ RemoveSpans (direction i) ∷ []) no_call
+      ByRemoval (reverse older) [] (λ i. reverse older ++ RemoveSpans ((same_direction e d is) i) ∷ []) no_call
   remove_last e older rest false is = more (reverse older) (RemoveSpans e) _ is rest
 
   of_newest : (newest_first : List SpanCall) → IsEffectiveSpan d p (reverse newest_first) (span_from d p newest_first)
   of_newest [] = ByNone no_call
-  of_newest (SetSpan e q n ∷ older) =
-      subst (λ cs. IsEffectiveSpan d p cs (span_from d p (SetSpan e q n ∷ older))) (sym (newest_last (SetSpan e q n) older))
-      (set_last e q n older (of_newest older) (decides_span d p (SetSpan e q n)) refl)
-  of_newest (RemoveSpans e ∷ older) =
-      subst (λ cs. IsEffectiveSpan d p cs (span_from d p (RemoveSpans e ∷ older))) (sym (newest_last (RemoveSpans e) older))
-      (remove_last e older (of_newest older) (decides_span d p (RemoveSpans e)) refl)
+  of_newest (SetSpan e q n ∷ older) = grind (arith, span_from, newest_last, set_last, of_newest older)
+  of_newest (RemoveSpans e ∷ older) = grind (arith, span_from, newest_last, remove_last, of_newest older)
 
   pub effective_span-IsEffectiveSpan : (calls : List SpanCall) → IsEffectiveSpan d p calls (effective_span d p calls)
   effective_span-IsEffectiveSpan calls = subst (λ cs. IsEffectiveSpan d p cs (span_from d p (reverse calls))) (reverse-reverse calls) (of_newest (reverse calls))

@@ -27,8 +27,7 @@ entries_end_within d m count ordered = (
   (λ ends. list_all-from_AllPass (λ e. leb (e.0.col + e.1) count) m.entries
       (All-weaker (λ e. tree_get position_cmp m e.0 ≡ Some e.1) (λ e. leb (e.0.col + e.1) count ≡ true)
       (λ e is.
-      let position : along d (key_of d e.0) ≡ e.0.col = ap (λ (q : Position). q.col) (key_key d e.0) in
       let within : along d (key_of d e.0) + e.1 ≤ count = ends (key_of d e.0) e.1 (stored_at d m.entries (key_of d e.0) ∙ ap (tree_get position_cmp m) (key_key d e.0) ∙ is) in
-      le-leb _ _ (omega (arith, position, within)))
+      le-leb _ _ (omega (arith, ap (λ (q : Position). q.col) (key_key d e.0), within)))
       m.entries (All-found position_total m ordered))),
 )

@@ -11,7 +11,7 @@ use Rattle.papergrid_values.specs.Positions.{along}
 use Rattle.papergrid_values.specs.declared.direction.Direction.{Direction}
 use Rattle.papergrid_values.specs.declared.position.Position.{Position}
 use Rattle.papergrid_values.specs.MapKeys.{position_cmp}
-use Rattle.papergrid_maps.specs.ForProofs.SpanIndex.{IsReached, stored_along, key_of, line_of}
+use Rattle.papergrid_maps.specs.ForProofs.SpanIndex.{IsReached, stored_along, key_of}
 use Rattle.papergrid_maps.proofs.IndexKeys.{stored_at, key_key}
 use Rattle.papergrid_maps.proofs.IndexRanges.{any_between, in_line, of_line}
 
@@ -52,11 +52,9 @@ module _ (m : BTreeMap Position ℕ) where
   index_reached d p = (
     λ h.
         let k = h.0 in
-        let line : line_of d (key_of d k) ≡ k.row = ap (λ q. q.row) (key_key d k) in
         let position : along d (key_of d k) ≡ k.col = ap (λ q. q.col) (key_key d k) in
         let span : get (stored_along d m.entries) (key_of d k) ≡ tree_get position_cmp m k = stored_at d m.entries (key_of d k) ∙ ap (tree_get position_cmp m) (key_key d k) in
-        (key_of d k, line ∙ h.1, omega (arith, position, h.2), rw (span, position) h.3),
+        (key_of d k, (ap (λ q. q.row) (key_key d k)) ∙ h.1, omega (arith, position, h.2), rw (span, position) h.3),
     λ h.
-        let span : get (stored_along d m.entries) h.0 ≡ tree_get position_cmp m (key_of d h.0) = stored_at d m.entries h.0 in
-        (key_of d h.0, h.1, h.2, rw (← span) h.3),
+        (key_of d h.0, h.1, h.2, rw (← (stored_at d m.entries h.0)) h.3),
   )

@@ -1,5 +1,5 @@
 -- The entries of three maps, gathered in one.
-use Rattle.std.proofs.Common.{◌≡◌, ℕ, Bool, false, cond, List, [], ◌∷◌, map, eqb, Option, Some, None, refl, sym, ap, subst, ◌∙◌}
+use Rattle.std.proofs.Common.{◌≡◌, ℕ, Bool, false, cond, List, [], ◌∷◌, map, eqb, Option, Some, None, refl, sym, ap, subst, ◌∙◌, arith}
 use Rattle.std.specs.Option.{option_or}
 use Rattle.std.specs.List.{IsDistinct}
 use Rattle.std.specs.Cmp.{IsEquivalence, nat_eq_equiv}
@@ -68,14 +68,6 @@ module _ {K T : Type 0} where
         ∙ ap (λ es. update_all entity_eq now (entries_of of es) q) (sym is) ∙ puts.each of exact q;
   }
 
-  -- all are put
-  pub puts_all : {post : K → Entity → Type 0} {left all entries : List (K × T)} {now before : Entity → Option T} → left ≡ [] → all ≡ entries
-      → Puts post left all now before → (of : K → Entity) → ((k : K) (e : Entity) → post k e → e ≡ of k)
-      → (q : Entity) → now q ≡ update_all entity_eq before (entries_of of entries) q
-  puts_all {now = now} {before = before} none whole puts of exact q =
-      ap (λ es. update_all entity_eq now (entries_of of es) q) (sym none) ∙ puts.each of exact q
-      ∙ ap (λ es. update_all entity_eq before (entries_of of es) q) whole
-
 module _ {T : Type 0} where
   -- `new` has the entries, each for the entity of its key, over what `old` has
   pub record Adds {K : Type 0} (h : K → Entity) (es : List (K × T)) (old new : Entity → Option T) : Type 0 where
@@ -85,8 +77,7 @@ module _ {T : Type 0} where
   unchanged : {K : Type 0} (h : K → Entity) (q : Entity) → ((k : K) → entity_eq (h k) q ≡ false) → (f : Entity → Option T) (es : List (K × T))
       → update_all entity_eq f (entries_of h es) q ≡ f q
   unchanged h q apart f [] = refl
-  unchanged h q apart f (e ∷ es) =
-      unchanged h q apart (update entity_eq f (h e.0) (Some e.1)) es ∙ ap (λ b. cond b (Some e.1) (f q)) (apart e.0)
+  unchanged h q apart f (e ∷ es) = grind (arith, unchanged h q apart (update entity_eq f (h e.0) (Some e.1)) es)
 
   elsewhere : {K : Type 0} (h : K → Entity) (q : Entity) → ((k : K) → entity_eq (h k) q ≡ false) → {es : List (K × T)} {old new : Entity → Option T}
       → Adds h es old new → new q ≡ old q
@@ -95,9 +86,7 @@ module _ {T : Type 0} where
   module _ {K : Type 0} (h : K → Entity) (eq : K → K → Bool) (same : (j k : K) → entity_eq (h j) (h k) ≡ eq j k) where
     at_key : (f : Entity → Option T) (es : List (K × T)) (k : K) → update_all entity_eq f (entries_of h es) (h k) ≡ update_all eq (λ j. f (h j)) es k
     at_key f [] k = refl
-    at_key f (e ∷ es) k =
-        at_key (update entity_eq f (h e.0) (Some e.1)) es k
-        ∙ ap (λ g. update_all eq g es k) (λ i j. cond (same e.0 j i) (Some e.1) (f (h j)))
+    at_key f (e ∷ es) k = grind (arith, at_key (update entity_eq f (h e.0) (Some e.1)) es k)
 
     -- an entity of the kind has what its key has, where it had nothing
     there : IsEquivalence eq → {es : List (K × T)} {old new : Entity → Option T} → IsDistinct eq (keys_of es) → Adds h es old new

@@ -1,5 +1,5 @@
 -- The spans that calls make have them as their history, and no others do.
-use Rattle.std.proofs.Common.{◌≡◌, Bool, true, false, cond, ◌&&◌, List, [], ◌∷◌, refl, sym, ap, ◌∙◌, leb}
+use Rattle.std.proofs.Common.{◌≡◌, Bool, true, false, cond, ◌&&◌, List, [], ◌∷◌, refl, sym, ap, ◌∙◌, leb, arith}
 use Rattle.std.specs.Prelude.{◌||◌, flat_map, reverse, is_some}
 use Rattle.std.specs.List.{list_any}
 use Rattle.std.specs.Ordering.{eq_by_cmp}
@@ -21,11 +21,7 @@ use Rattle.std.specs.FinMap.{get}
 -- an anchor whose span is not 1 is named
 anchor_named : (d : Direction) (q : Position) (older : List SpanCall) → is_some (from_two (span_from d q older)) ≡ true → list_any (eq_by_cmp position_cmp q) (flat_map named_anchors older) ≡ true
 anchor_named d q [] h = absurd (false≢true h)
-anchor_named d q (RemoveSpans e ∷ older) h =
-    elim (is_same_direction e d) as (λ b. is_some (from_two (cond b 1 (span_from d q older))) ≡ true → list_any (eq_by_cmp position_cmp q) (flat_map named_anchors older) ≡ true) [
-      | true ↦ λ h. absurd (false≢true h)
-      | false ↦ anchor_named d q older
-    ] h
+anchor_named d q (RemoveSpans e ∷ older) h = grind (arith, span_from, named_anchors, false≢true, anchor_named d q older)
 anchor_named d q (SetSpan e p n ∷ older) h =
     elim (position_eq p q) as (λ b. position_eq p q ≡ b → is_some (from_two (cond (is_same_direction e d && (leb 1 n && b)) n (span_from d q older))) ≡ true
     → (eq_by_cmp position_cmp q p || list_any (eq_by_cmp position_cmp q) (flat_map named_anchors older)) ≡ true) [

@@ -1,5 +1,5 @@
 -- One more call: what it makes of each part, and that the list of calls says the same.
-use Rattle.std.proofs.Common.{◌≡◌, ℕ, ◌&&◌, List, [], ◌∷◌, ◌++◌, Option, Some, None, refl, sym, ap, subst, ◌∙◌}
+use Rattle.std.proofs.Common.{◌≡◌, ℕ, ◌&&◌, List, [], ◌∷◌, ◌++◌, Option, Some, None, refl, sym, ap, subst, ◌∙◌, rules}
 use Rattle.std.specs.Prelude.{◌==◌, if◌then◌else◌, is_some, reverse}
 use Rattle.std.proofs.Common.{append_assoc}
 use Rattle.std.proofs.lemmas.List.{reverse-append}
@@ -70,8 +70,7 @@ module _ {T : Type 0} where
         global = step.global ∙ ap (global_after call) holds.global ∙ after.0 ∙ ap (global_value given) same;
         columns = λ c. step.columns c ∙ ap (value_after call (Column c)) (holds.columns c) ∙ after.1 (Column c) ∙ ap (standing_value (Column c)) same;
         rows = λ r. step.rows r ∙ ap (value_after call (Row r)) (holds.rows r) ∙ after.1 (Row r) ∙ ap (standing_value (Row r)) same;
-        cells = λ p. step.cells p ∙ (λ i. cell_after call p (holds.columns p.col i) (holds.rows p.row i) (holds.cells p i)) ∙ after.2 p
-            ∙ ap (cell_override_value p.row p.col) same;
+        cells = search (rules, cell_override_value);
       })
 
   pub history_from_step : {old stored new : Stored T} {call history_call : MapCall T} → stored ≡ old → history_call ≡ call → IsStep stored new call → AppendsCalls old new (history_call ∷ [])

@@ -1,5 +1,5 @@
 -- Each change of the three maps, as a step of what is stored.
-use Rattle.std.proofs.Common.{◌≡◌, ℕ, Bool, true, false, cond, ◌&&◌, List, [], ◌∷◌, map, eqb, Some, None, refl, sym, ap, ◌∙◌}
+use Rattle.std.proofs.Common.{◌≡◌, ℕ, Bool, true, false, cond, ◌&&◌, List, [], ◌∷◌, map, eqb, Some, None, refl, sym, ap, ◌∙◌, arith}
 use Rattle.std.specs.Prelude.{◌||◌, not, filter}
 use Rattle.std.specs.List.{list_any}
 use Rattle.std.specs.Cmp.{nat_eq_equiv}
@@ -56,20 +56,14 @@ module _ {T : Type 0} where
       → ((r : ℕ) → lookup (eqb r) rs' ≡ value_after call (Row r) (lookup (eqb r) rs))
       → ((p : Position) → lookup (position_eq p) ks' ≡ cell_after call p (lookup (eqb p.col) cs) (lookup (eqb p.row) rs) (lookup (position_eq p) ks))
       → IsStep (view_of g cs rs ks) (view_of g' cs' rs' ks') call
-  step_of_entries call g g' cs rs cs' rs' ks ks' global columns rows cells = record {
-    global = global;
-    columns = λ c. get_at_number cs' c ∙ columns c ∙ ap (value_after call (Column c)) (sym (get_at_number cs c));
-    rows = λ r. get_at_number rs' r ∙ rows r ∙ ap (value_after call (Row r)) (sym (get_at_number rs r));
-    cells = λ p. get_at_position ks' p ∙ cells p ∙ (λ i. cell_after call p (sym (get_at_number cs p.col) i) (sym (get_at_number rs p.row) i) (sym (get_at_position ks p) i));
-  }
+  step_of_entries call g g' cs rs cs' rs' ks ks' global columns rows cells = grind (arith, get_at_number, value_after, get_at_position, cell_after)
 
   -- maps that answer alike hold the same
   pub same_view : (g : T) (cs rs cs' rs' : List (ℕ × T)) (ks ks' : List (Position × T))
       → ((c : ℕ) → lookup (eqb c) cs' ≡ lookup (eqb c) cs) → ((r : ℕ) → lookup (eqb r) rs' ≡ lookup (eqb r) rs)
       → ((p : Position) → lookup (position_eq p) ks' ≡ lookup (position_eq p) ks)
       → view_of g cs' rs' ks' ≡ view_of g cs rs ks
-  same_view g cs rs cs' rs' ks ks' columns rows cells =
-      λ i. record { global = g; columns = same_numbers cs cs' columns i; rows = same_numbers rs rs' rows i; cells = same_positions ks ks' cells i }
+  same_view g cs rs cs' rs' ks ks' columns rows cells = grind (arith, same_numbers, same_positions)
 
   pub step_insert_column : (g v : T) (c : ℕ) (cs rs cs' : List (ℕ × T)) (ks ks' : List (Position × T))
       → ((q : ℕ) → lookup (eqb q) cs' ≡ cond (eqb c q) (Some v) (lookup (eqb q) cs))

@@ -1,5 +1,5 @@
 -- What is covered is hidden, and what is not covered is visible.
-use Rattle.std.proofs.Common.{◌≡◌, ℕ, ◌≤◌, true, false, Option, Some, None, refl, ap, arith}
+use Rattle.std.proofs.Common.{◌≡◌, ℕ, ◌≤◌, true, false, Option, Some, None, refl, arith}
 use Rattle.std.specs.Prelude.{unwrap_or, ◌≢◌, ◌↔◌}
 use Rattle.std.specs.FinMap.{FinMap, get}
 use Rattle.std.proofs.lemmas.Bool.{false≢true}
@@ -22,16 +22,10 @@ spans_from_one spans wide tall Rows p = at_least_one spans.rows tall p _ refl
 
 -- what is covered is not visible
 pub hidden_right : (spans : Spans) → AreFromTwo spans.rows → (p : Position) → IsCoveredByColumn (span_along spans) p → IsVisible (span_along spans) p → ⊥
-hidden_right spans big p h visible =
-    let tall : 1 ≤ span_along spans Rows h.0 = at_least_one spans.rows big h.0 _ refl in
-    let apart : h.0 ≢ p = λ e. let same : h.0.col ≡ p.col = ap (λ q. q.col) e in absurd (omega (arith, h.2)) in
-    visible h.0 apart (record { below_top = omega (arith, h.1); above_bottom = omega (arith, h.1); after_left = omega (arith, h.2); before_right = h.3 })
+hidden_right spans big p h visible = grind (arith, at_least_one)
 
 pub hidden_below : (spans : Spans) → AreFromTwo spans.columns → (p : Position) → IsCoveredByRow (span_along spans) p → IsVisible (span_along spans) p → ⊥
-hidden_below spans big p h visible =
-    let wide : 1 ≤ span_along spans Columns h.0 = at_least_one spans.columns big h.0 _ refl in
-    let apart : h.0 ≢ p = λ e. let same : h.0.row ≡ p.row = ap (λ q. q.row) e in absurd (omega (arith, h.2)) in
-    visible h.0 apart (record { below_top = omega (arith, h.2); above_bottom = h.3; after_left = omega (arith, h.1); before_right = omega (arith, h.1) })
+hidden_below spans big p h visible = grind (arith, at_least_one)
 
 -- the answer of each way
 pub not_visible : {V : Type 0} → (V → ⊥) → (false ≡ true) ↔ V

@@ -39,8 +39,7 @@ same_some m n e = ap (λ o. unwrap_or o m) e
 history_step : (old new : Spans) (call : SpanCall)
     → ((d : Direction) (p : Position) (older : List SpanCall) → get (spans_along d old) p ≡ from_two (span_from d p older) → get (spans_along d new) p ≡ from_two (span_from d p (call ∷ older)))
     → AppendsHistory HasSpanHistory old new (call ∷ [])
-history_step old new call step calls told = history_of_spans (calls ++ call ∷ []) new
-    (λ d p. step d p (reverse calls) (spans_of_history calls old told d p) ∙ ap (λ xs. from_two (span_from d p xs)) (sym (newest calls call)))
+history_step old new call step calls told = grind (arith, history_of_spans, spans_of_history, span_from, newest)
 
 module _ (q : Position) (n : ℕ) (old new : FinMap position_cmp ℕ) (changed : (p : Position) → get new p ≡ span_set q n p (get old p)) where
   -- no span below 2 comes to be stored

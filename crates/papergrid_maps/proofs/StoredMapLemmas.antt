@@ -1,5 +1,5 @@
 -- What a map holds, by the entries of its three maps.
-use Rattle.std.proofs.Common.{◌≡◌, ℕ, Bool, ◌&&◌, List, [], length, eqb, Option, Some, None, refl, sym, subst, ap, ◌∙◌}
+use Rattle.std.proofs.Common.{◌≡◌, ℕ, Bool, ◌&&◌, List, [], length, eqb, Option, Some, None, sym, subst, ap, ◌∙◌, rules}
 use Rattle.std.specs.Prelude.{◌↔◌, IsTrue}
 use Rattle.std.specs.Cmp.{nat_eq_equiv}
 use Rattle.std.proofs.lemmas.Bool.{and_parts, and_from}
@@ -26,12 +26,7 @@ module _ {T : Type 0} where
   stored_value-view_of g cs rs ks p = λ i. unwrap_or (get_at_position ks p i) (unwrap_or (get_at_number cs p.col i) (unwrap_or (get_at_number rs p.row i) g))
 
   pub new_history : (g : T) → HasMapHistory g [] (view_of g [] [] [])
-  new_history g = history_of_search [] g (view_of g [] [] []) (record {
-    global = refl;
-    columns = λ c. get_at_number [] c;
-    rows = λ r. get_at_number [] r;
-    cells = λ p. get_at_position [] p;
-  })
+  new_history g = search (rules, history_of_search, get_at_number, get_at_position)
 
 -- nothing is stored where the three maps are empty
 pub nothing_stored : {T : Type 0} (g : T) (cs rs : List (ℕ × T)) (ks : List (Position × T)) (a b c : Bool)

@@ -1,23 +1,16 @@
 -- Equality of border tables is agreement of what they hold for each part.
-use Rattle.std.proofs.Common.{◌≡◌, ◌∙◌, Bool, true, List, [], ◌∷◌, Option, Some, None, refl, sym, ap}
+use Rattle.std.proofs.Common.{◌≡◌, Bool, true, List, [], ◌∷◌, Option, Some, None, refl, ap, arith}
 use Rattle.std.specs.Prelude.{◌↔◌, ◌&&◌}
-use Rattle.std.specs.FinMap.{get}
 use Rattle.std.specs.Option.{option_eq}
 use Rattle.std.proofs.lemmas.Bool.{and_from, and_parts}
-use Rattle.papergrid_values.specs.Borders.{frame_parts}
-use Rattle.papergrid_values.specs.Lines.{horizontal_parts, vertical_parts}
 use Rattle.papergrid_values.proofs.EqualLemmas.{numbers_agree, positions_agree}
 use Rattle.papergrid_tables.specs.StoredBorders.{StoredBorders, parts_of_borders}
 use Rattle.papergrid_tables.specs.BorderSame.{HoldTheSameBorders, same_parts}
-use Rattle.papergrid_tables.specs.ForProofs.BorderEq.{borders_eq, horizontal_line_eq, parts_eq, vertical_line_eq}
+use Rattle.papergrid_tables.specs.ForProofs.BorderEq.{borders_eq, parts_eq}
 
 -- four tests, each of which holds
 pub and_four : {a b c d : Bool} → (a && (b && (c && d))) ≡ true → (a ≡ true) × (b ≡ true) × (c ≡ true) × (d ≡ true)
-and_four h =
-    let first = and_parts _ _ h in
-    let second = and_parts _ _ first.1 in
-    let third = and_parts _ _ second.1 in
-    (first.0, second.0, third.0, third.1)
+and_four h = grind (arith, and_parts)
 
 module _ {T : Type 0} (eq : T → T → Bool) where
   parts_pointwise : (xs ys : List (Option T)) → parts_eq eq xs ys ≡ same_parts eq xs ys
@@ -36,33 +29,8 @@ module _ {T : Type 0} (eq : T → T → Bool) where
   pub borders_agree : (s t : StoredBorders T) → (borders_eq eq s t ≡ true) ↔ HoldTheSameBorders eq (parts_of_borders s) (parts_of_borders t)
   borders_agree s t = (there, back)
     where
-      frames : parts_eq eq (frame_parts s.frame) (frame_parts t.frame) ≡ same_parts eq (frame_parts s.frame) (frame_parts t.frame)
-      frames = parts_pointwise (frame_parts s.frame) (frame_parts t.frame)
-
       there : borders_eq eq s t ≡ true → HoldTheSameBorders eq (parts_of_borders s) (parts_of_borders t)
-      there h =
-          let a = and_four h in
-          let b = and_four a.3 in
-          record {
-            global = a.0;
-            frame = sym frames ∙ a.1;
-            horizontal_line = λ n. sym (lines_pointwise horizontal_parts (get s.horizontal_lines n) (get t.horizontal_lines n))
-                ∙ (numbers_agree (horizontal_line_eq eq) s.horizontal_lines t.horizontal_lines).0 a.2 n;
-            vertical_line = λ n. sym (lines_pointwise vertical_parts (get s.vertical_lines n) (get t.vertical_lines n))
-                ∙ (numbers_agree (vertical_line_eq eq) s.vertical_lines t.vertical_lines).0 b.0 n;
-            horizontal_edge = (positions_agree eq s.horizontal_edges t.horizontal_edges).0 b.1;
-            vertical_edge = (positions_agree eq s.vertical_edges t.vertical_edges).0 b.2;
-            corner = (positions_agree eq s.corners t.corners).0 b.3;
-          }
+      there h = grind (arith, and_four, lines_pointwise, numbers_agree, positions_agree)
 
       back : HoldTheSameBorders eq (parts_of_borders s) (parts_of_borders t) → borders_eq eq s t ≡ true
-      back h =
-          and_from _ _ h.global
-          (and_from _ _ (frames ∙ h.frame)
-          (and_from _ _ ((numbers_agree (horizontal_line_eq eq) s.horizontal_lines t.horizontal_lines).1
-          (λ n. lines_pointwise horizontal_parts (get s.horizontal_lines n) (get t.horizontal_lines n) ∙ h.horizontal_line n))
-          (and_from _ _ ((numbers_agree (vertical_line_eq eq) s.vertical_lines t.vertical_lines).1
-          (λ n. lines_pointwise vertical_parts (get s.vertical_lines n) (get t.vertical_lines n) ∙ h.vertical_line n))
-          (and_from _ _ ((positions_agree eq s.horizontal_edges t.horizontal_edges).1 h.horizontal_edge)
-          (and_from _ _ ((positions_agree eq s.vertical_edges t.vertical_edges).1 h.vertical_edge)
-          ((positions_agree eq s.corners t.corners).1 h.corner))))))
+      back h = grind (arith, and_from, numbers_agree, lines_pointwise, positions_agree)

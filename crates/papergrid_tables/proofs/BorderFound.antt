@@ -1,5 +1,5 @@
 -- What is found in a border table, and which lines it has, by the entries of its maps.
-use Rattle.std.proofs.Common.{◌≡◌, ℕ, Bor, Bool, true, false, ◌&&◌, List, [], length, eqb, Option, Some, None, refl, sym, ap, ◌∙◌}
+use Rattle.std.proofs.Common.{◌≡◌, ℕ, Bor, Bool, true, false, ◌&&◌, List, [], length, eqb, Option, Some, None, refl, sym, ap, ◌∙◌, arith}
 use Rattle.std.specs.Prelude.{◌↔◌, IsFalse, IsTrue, IsSome, is_some, is_none, not}
 use Rattle.std.specs.Option.{option_or, option_copied}
 use Rattle.std.specs.List.{list_any, IsDistinct}
@@ -71,39 +71,7 @@ none_is (Some x) h = absurd (false≢true h)
 
 -- a frame that has no part set is the one without parts
 bare_frame : {T : Type 0} (f : Borders T) → none_set (frame_parts f) ≡ true → f ≡ frame_with None
-bare_frame f none =
-    let p0 = and_parts (is_none f.top) _ none in
-    let p1 = and_parts (is_none f.top_left) _ p0.1 in
-    let p2 = and_parts (is_none f.top_right) _ p1.1 in
-    let p3 = and_parts (is_none f.top_intersection) _ p2.1 in
-    let p4 = and_parts (is_none f.bottom) _ p3.1 in
-    let p5 = and_parts (is_none f.bottom_left) _ p4.1 in
-    let p6 = and_parts (is_none f.bottom_right) _ p5.1 in
-    let p7 = and_parts (is_none f.bottom_intersection) _ p6.1 in
-    let p8 = and_parts (is_none f.horizontal) _ p7.1 in
-    let p9 = and_parts (is_none f.vertical) _ p8.1 in
-    let p10 = and_parts (is_none f.intersection) _ p9.1 in
-    let p11 = and_parts (is_none f.left) _ p10.1 in
-    let p12 = and_parts (is_none f.left_intersection) _ p11.1 in
-    let p13 = and_parts (is_none f.right) _ p12.1 in
-    let p14 = and_parts (is_none f.right_intersection) _ p13.1 in
-    λ i. record {
-      top = none_is f.top p0.0 i;
-      top_left = none_is f.top_left p1.0 i;
-      top_right = none_is f.top_right p2.0 i;
-      top_intersection = none_is f.top_intersection p3.0 i;
-      bottom = none_is f.bottom p4.0 i;
-      bottom_left = none_is f.bottom_left p5.0 i;
-      bottom_right = none_is f.bottom_right p6.0 i;
-      bottom_intersection = none_is f.bottom_intersection p7.0 i;
-      horizontal = none_is f.horizontal p8.0 i;
-      vertical = none_is f.vertical p9.0 i;
-      intersection = none_is f.intersection p10.0 i;
-      left = none_is f.left p11.0 i;
-      left_intersection = none_is f.left_intersection p12.0 i;
-      right = none_is f.right p13.0 i;
-      right_intersection = none_is f.right_intersection p14.0 i;
-    }
+bare_frame f none = grind (arith, and_parts, none_is)
 
 pub unset : {A : Type 0} (o : Option A) (b : Bool) → is_some o ≡ not b → b ≡ is_none o
 unset None true h = refl

@@ -1,5 +1,5 @@
 -- One more call on a border table, by the entries of its maps.
-use Rattle.std.proofs.Common.{◌≡◌, ℕ, Bool, cond, List, [], ◌∷◌, ◌++◌, eqb, Option, Some, None, sym, ap, refl, ◌∙◌}
+use Rattle.std.proofs.Common.{◌≡◌, ℕ, Bool, cond, List, [], ◌∷◌, ◌++◌, eqb, Option, Some, None, sym, ap, refl, ◌∙◌, arith, rules}
 use Rattle.std.specs.Option.{option_or}
 use Rattle.std.proofs.lemmas.List.{reverse-append}
 use Rattle.std.specs.Map.{lookup}
@@ -12,7 +12,7 @@ use Rattle.papergrid_values.specs.declared.border.Border.{Border}
 use Rattle.papergrid_values.specs.declared.borders.Borders.{Borders}
 use Rattle.papergrid_values.specs.declared.horizontal_line.HorizontalLine.{HorizontalLine}
 use Rattle.papergrid_values.specs.declared.vertical_line.VerticalLine.{VerticalLine}
-use Rattle.papergrid_tables.specs.BorderCalls.{BorderCall, InsertBorder, RemoveBorder, InsertHorizontalLine, RemoveHorizontalLine, InsertVerticalLine, RemoveVerticalLine, SetBorders, SetGlobal, Clear, is_edge_of, is_corner_of, edge_part, corner_part}
+use Rattle.papergrid_tables.specs.BorderCalls.{BorderCall, InsertBorder, RemoveBorder, InsertHorizontalLine, RemoveHorizontalLine, InsertVerticalLine, RemoveVerticalLine, SetBorders, Clear, is_edge_of, is_corner_of, edge_part, corner_part}
 use Rattle.papergrid_values.specs.History.{AppendsHistory}
 use Rattle.papergrid_tables.specs.StoredBorders.{StoredBorders, HasBorderHistory, parts_of_borders}
 use Rattle.papergrid_values.specs.MapKeys.{position_cmp, position_eq}
@@ -38,19 +38,10 @@ module _ {T : Type 0} where
   }
 
   history_step : (old new : StoredBorders T) (call : BorderCall T) → parts_of_borders new ≡ parts_after_call call (parts_of_borders old) → AppendsHistory HasBorderHistory old new (call ∷ [])
-  history_step old new call step calls told =
-      step ∙ ap (parts_after_call call) told ∙ ap parts_from (sym (reverse-append calls (call ∷ [])))
+  history_step old new call step calls told = grind (arith, reverse-append)
 
   none_told : parts_of_borders (table_of None (frame_with None) [] [] [] [] []) ≡ parts_from []
-  none_told = λ i. record {
-    global = None;
-    frame = frame_with None;
-    horizontal_line = λ n. get_at_number [] n i;
-    vertical_line = λ n. get_at_number [] n i;
-    horizontal_edge = λ p. get_at_position [] p i;
-    vertical_edge = λ p. get_at_position [] p i;
-    corner = λ p. get_at_position [] p i;
-  }
+  none_told = search (rules, get_at_number, get_at_position)
 
   pub new_history : HasBorderHistory [] (table_of None (frame_with None) [] [] [] [] [])
   new_history = none_told
@@ -130,20 +121,9 @@ module _ {T : Type 0} where
     pub history_set_borders : (frame : Borders T) → AppendsHistory HasBorderHistory (table_of g f hl vl he ve ks) (table_of g frame hl vl he ve ks) (SetBorders frame ∷ [])
     history_set_borders frame = history_step _ _ (SetBorders frame) refl
 
-    pub history_set_global : (v : T) → AppendsHistory HasBorderHistory (table_of g f hl vl he ve ks) (table_of (Some v) f hl vl he ve ks) (SetGlobal v ∷ [])
-    history_set_global v = history_step _ _ (SetGlobal v) refl
-
     -- edges and corners that answer alike are stored alike
     pub same_table : (he' ve' ks' : List (Position × T))
         → ((p : Position) → lookup (position_eq p) he' ≡ lookup (position_eq p) he) → ((p : Position) → lookup (position_eq p) ve' ≡ lookup (position_eq p) ve)
         → ((p : Position) → lookup (position_eq p) ks' ≡ lookup (position_eq p) ks)
         → table_of g f hl vl he' ve' ks' ≡ table_of g f hl vl he ve ks
-    same_table he' ve' ks' horizontal vertical corners = λ i. record {
-      global = g;
-      frame = f;
-      horizontal_lines = from_entries hl;
-      vertical_lines = from_entries vl;
-      horizontal_edges = same_positions he he' horizontal i;
-      vertical_edges = same_positions ve ve' vertical i;
-      corners = same_positions ks ks' corners i;
-    }
+    same_table he' ve' ks' horizontal vertical corners = grind (arith, same_positions)

@@ -1,5 +1,5 @@
 -- Counts of a map's keys, as the map changes.
-use Rattle.std.proofs.Common.{◌≡◌, ℕ, ◌+◌, ◌<◌, ◌≤◌, Bool, true, false, ◌&&◌, cond, List, [], ◌∷◌, eqb, Option, Some, None, refl, sym, ap, ◌∙◌, arith}
+use Rattle.std.proofs.Common.{◌≡◌, ℕ, ◌+◌, ◌<◌, ◌≤◌, Bool, true, ◌&&◌, cond, List, [], ◌∷◌, eqb, Option, Some, None, refl, sym, ap, ◌∙◌, arith}
 use Rattle.std.specs.Prelude.{is_some, is_none, unwrap_or}
 use Rattle.std.specs.Option.{option_map}
 use Rattle.std.specs.List.{count_by, sum_by}
@@ -37,29 +37,20 @@ module _ {K X : Type 0} (test : K → Bool) where
   removed : (is_key : K → Bool) (k : K) → ((q : K) → is_key q ≡ true → q ≡ k) → (es : List (K × X))
       → count_by test (keys_of (remove_entry is_key es)) + cond (is_some (lookup is_key es) && test k) 1 0 ≡ count_by test (keys_of es)
   removed is_key k exact [] = refl
-  removed is_key k exact (e ∷ es) =
-      elim (is_key e.0) as (λ b. is_key e.0 ≡ b → count_by test (keys_of (cond b es (e ∷ remove_entry is_key es))) + cond (is_some (cond b (Some e.1) (lookup is_key es)) && test k) 1 0 ≡ count_by test (keys_of (e ∷ es))) [
-        | true ↦ λ here. let same = ap {B = ℕ} (λ q. cond (test q) 1 0) (exact e.0 here) in omega (arith, one_more e es, same)
-        | false ↦ λ _. omega (arith, one_more e es, one_more e (remove_entry is_key es), removed is_key k exact es)
-      ] refl
+  removed is_key k exact (e ∷ es) = grind (arith, one_more, removed is_key k exact es)
 
   -- one less where the key was stored
   pub count_removed : (is_key : K → Bool) (k : K) → ((q : K) → is_key q ≡ true → q ≡ k) → (es fs : List (K × X)) (b : Bool) → IsPermutation (remove_entry is_key es) fs → b ≡ is_some (lookup is_key es)
       → count_by test (keys_of fs) + cond (b && test k) 1 0 ≡ count_by test (keys_of es)
-  count_removed is_key k exact es fs b same is =
-      rw is (ap (λ n. n + cond (is_some (lookup is_key es) && test k) 1 0) (count_reordered (remove_entry is_key es) fs same) ∙ removed is_key k exact es)
+  count_removed is_key k exact es fs b same is = grind (arith, count_reordered, removed)
 
 -- what stands on its own line is counted there
 pub counted_here : (x new old count : ℕ) (b : Bool) → b ≡ true → new + cond (b && eqb x x) 1 0 ≡ old → count ≡ old → 0 < count
-counted_here x new old count b is less counts =
-    let one = ap {B = ℕ} (λ c. cond (c && eqb x x) 1 0) is ∙ ap {B = ℕ} (λ c. cond c 1 0) (eq-eqb x x refl) in
-    omega (arith, one, less, counts)
+counted_here x new old count b is less counts = grind (arith, eq-eqb)
 
 -- where one more is counted and one more stands, the count is right again
 pub counted_one_more : (counted count new old : ℕ) (b on : Bool) → b ≡ true → counted ≡ count + cond on 1 0 → new ≡ old + cond (b && on) 1 0 → count ≡ old → counted ≡ new
-counted_one_more counted count new old b on is adds more counts =
-    let same = ap {B = ℕ} (λ c. cond (c && on) 1 0) is in
-    omega (arith, same, adds, more, counts)
+counted_one_more counted count new old b on is adds more counts = grind arith
 
 -- ---- lines with an end that is set
 
@@ -71,18 +62,15 @@ module _ {L : Type 0} (is_set : L → Bool) where
   ends_put : {S : Type 0} (m n : HashMap ℕ L S) (k : ℕ) (line : L) (old : Option L) (had has : Bool) → old ≡ get eqb m k → PutsEntry eqb m n k line old → had ≡ is_end_set is_set old → has ≡ is_set line
       → count_by is_set (values n) + cond had 1 0 ≡ count_by is_set (values m) + cond has 1 0
   ends_put m n k line old had has stored puts was now =
-      let sums = sum_by_puts_entry (λ l. one_if (is_set l)) eqb m n k line old stored puts in
       let old_weight = weight_of old ∙ ap one_if (sym was) in
-      let new_weight = ap one_if now in
-      omega (arith, sums, old_weight, new_weight)
+      omega (arith, sum_by_puts_entry (λ l. one_if (is_set l)) eqb m n k line old stored puts, old_weight, ap one_if now)
 
   ends_taken : (is_key : ℕ → Bool) (es fs : List (ℕ × L)) (old : Option L) (had : Bool) → IsPermutation (remove_entry is_key es) fs → old ≡ lookup is_key es → had ≡ is_end_set is_set old
       → count_by is_set (values_of fs) + cond had 1 0 ≡ count_by is_set (values_of es)
   ends_taken is_key es fs old had same stored was =
-      let reordered = sum_by_values_permutation (λ l. one_if (is_set l)) (remove_entry is_key es) fs same in
       let sums = sum_by-remove_entry (λ l. one_if (is_set l)) is_key es in
       let weight = ap (λ o. unwrap_or (option_map (λ l. one_if (is_set l)) o) 0) (sym stored) ∙ weight_of old ∙ ap one_if (sym was) in
-      omega (arith, reordered, sums, weight)
+      omega (arith, sum_by_values_permutation (λ l. one_if (is_set l)) (remove_entry is_key es) fs same, sums, weight)
 
   -- the end of the line that was there is counted, and the count that changes by both ends is right again
   pub put_counted : {S : Type 0} (m n : HashMap ℕ L S) (k : ℕ) (line : L) (old : Option L) (had has : Bool) (count : ℕ) → old ≡ get eqb m k → PutsEntry eqb m n k line old → had ≡ is_end_set is_set old → has ≡ is_set line → count ≡ count_by is_set (values m)

@@ -50,8 +50,7 @@ ends_apart x y a b u v = grind arith
 any_end : {L T : Type 0} (first end : L → Option T) (index count : ℕ) (es : List (ℕ × L))
     → list_any (λ e. has_end index count (first e.1) (end e.1)) es ≡ ((eqb index 0 && list_any (λ e. is_some (first e.1)) es) || (eqb index count && list_any (λ e. is_some (end e.1)) es))
 any_end first end index count [] = grind arith
-any_end first end index count (e ∷ es) =
-    ap (λ b. has_end index count (first e.1) (end e.1) || b) (any_end first end index count es) ∙ ends_apart (eqb index 0) (eqb index count) _ _ _ _
+any_end first end index count (e ∷ es) = grind (arith, ends_apart, any_end first end index count es)
 
 -- an end of a line
 pub ends_counted : {L T : Type 0} (first end : L → Option T) (index count : ℕ) (lines : Lines L) (b : Bool) → AreEndsCounted (λ line. is_some (first line)) (λ line. is_some (end line)) lines

@@ -1,5 +1,5 @@
 -- Tables with the same history of calls are equal.
-use Rattle.std.proofs.Common.{◌≡◌, ◌∙◌, sym, ap, refl, Bool, true, List, [], ◌∷◌, Option, Some, None}
+use Rattle.std.proofs.Common.{◌≡◌, ◌∙◌, sym, ap, refl, Bool, true, List, [], ◌∷◌, Option, Some, None, arith}
 use Rattle.std.specs.FinMap.{FinMap, get}
 use Rattle.std.specs.Option.{option_eq}
 use Rattle.std.proofs.lemmas.Bool.{and_from}
@@ -39,5 +39,4 @@ module _ {X : Type 0} (eq : X → X → Bool) (same : (x : X) → eq x x ≡ tru
       ap (borders_eq eq s) (border_history calls t history_t ∙ sym (border_history calls s history_s)) ∙ borders_same s
 
   pub override_histories_equal : (calls : List (OffsetCall X)) (s t : FinMap position_cmp (StoredOffsets X)) → overrides.HasOverrideHistory calls s → overrides.HasOverrideHistory calls t → overrides_eq eq s t ≡ true
-  override_histories_equal calls s t history_s history_t =
-      (overrides_agree eq s t).1 (λ p o. ap (option_eq eq (overrides.override_at s p o)) (history_t p o ∙ sym (history_s p o)) ∙ option_same eq same (overrides.override_at s p o))
+  override_histories_equal calls s t history_s history_t = grind (arith, overrides_agree, option_same)

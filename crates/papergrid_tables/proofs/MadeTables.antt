@@ -1,5 +1,5 @@
 -- The border table that calls make has them as its history, and no other does.
-use Rattle.std.proofs.Common.{◌≡◌, ℕ, Bool, true, false, cond, List, [], ◌∷◌, ◌++◌, Option, Some, None, refl, sym, ◌∙◌, eqb}
+use Rattle.std.proofs.Common.{◌≡◌, ℕ, Bool, true, false, cond, List, [], ◌∷◌, ◌++◌, Option, Some, None, refl, sym, ◌∙◌, eqb, arith, rules}
 use Rattle.std.specs.Prelude.{◌||◌, flat_map, reverse, is_some}
 use Rattle.std.specs.Cmp.{nat_cmp_total, unsigned_tied}
 use Rattle.std.specs.List.{list_any}
@@ -11,13 +11,13 @@ use Rattle.std.proofs.lemmas.Bool.{false≢true, or_left, or_right, eqb-true, eq
 use Rattle.papergrid_values.specs.declared.direction.Direction.{Direction}
 use Rattle.papergrid_values.specs.declared.direction.Direction.TheVariants.{Columns, Rows}
 use Rattle.papergrid_values.specs.declared.position.Position.{Position}
-use Rattle.papergrid_tables.specs.BorderCalls.{at_position, below, right_of, BorderCall, InsertBorder, RemoveBorder, InsertHorizontalLine, RemoveHorizontalLine, InsertVerticalLine, RemoveVerticalLine, Clear, is_edge_of, is_corner_of, edge_part, corner_part}
+use Rattle.papergrid_tables.specs.BorderCalls.{at_position, below, right_of, BorderCall, InsertBorder, RemoveBorder, InsertHorizontalLine, RemoveHorizontalLine, InsertVerticalLine, RemoveVerticalLine, Clear, is_edge_of, is_corner_of}
 use Rattle.papergrid_tables.specs.StoredBorders.{StoredBorders, HasBorderHistory, parts_of_borders}
-use Rattle.papergrid_values.specs.MapKeys.{position_cmp, position_eq}
+use Rattle.papergrid_values.specs.MapKeys.{position_cmp}
 use Rattle.papergrid_tables.proofs.Made.{borders_made, named_columns, named_positions, named_rows}
 use Rattle.papergrid_tables.specs.BorderParts.{BorderParts, parts_after_call, no_parts, parts_from}
 use Rattle.papergrid_values.proofs.TabulatedLemmas.{tabulates}
-use Rattle.papergrid_values.proofs.KeyLemmas.{exact_position, exact_positions, position_equiv, position_ties, position_total}
+use Rattle.papergrid_values.proofs.KeyLemmas.{exact_position, exact_positions, position_ties, position_total}
 use Rattle.papergrid_tables.specs.ForProofs.LineTested.{exact_number}
 
 -- ---- what calls write, they name
@@ -35,9 +35,7 @@ module _ {T K A : Type 0} (R : K → K → Ordering) (stored : BorderParts T →
     (names : (call : BorderCall T) (old : BorderParts T) (q : K) → is_some (stored (parts_after_call call old) q) ≡ true → (list_any (eq_by_cmp R q) (named call) || is_some (stored old q)) ≡ true) where
   all_named : (calls : List (BorderCall T)) (q : K) → is_some (stored (parts_from calls) q) ≡ true → list_any (eq_by_cmp R q) (flat_map named calls) ≡ true
   all_named [] q h = absurd (none q h)
-  all_named (call ∷ older) q h =
-      any_append (eq_by_cmp R q) (named call) (flat_map named older)
-      ∙ or_with_next (list_any (eq_by_cmp R q) (named call)) (is_some (stored (parts_from older) q)) _ (names call (parts_from older) q h) (all_named older q)
+  all_named (call ∷ older) q h = grind (arith, any_append, or_with_next, all_named older q)
 
 -- what is there where a test would drop it
 kept_there : {A : Type 0} (b : Bool) (old : Option A) → is_some (cond b None old) ≡ true → is_some old ≡ true
@@ -53,11 +51,7 @@ number_named k q h = or_left _ _ (unsigned_tied q k ∙ eq-eqb q k (sym (eqb-tru
 
 line_named : {L : Type 0} (k q : ℕ) (line : L) (old : Option L) → is_some (cond (eqb k q) (Some line) old) ≡ true
     → (list_any (eq_by_cmp nat_cmp q) (k ∷ []) || is_some old) ≡ true
-line_named k q line old h =
-    elim (eqb k q) as (λ b. eqb k q ≡ b → is_some (cond b (Some line) old) ≡ true → (list_any (eq_by_cmp nat_cmp q) (k ∷ []) || is_some old) ≡ true) [
-      | true ↦ λ here _. or_left (list_any (eq_by_cmp nat_cmp q) (k ∷ [])) (is_some old) (number_named k q here)
-      | false ↦ λ _ there. or_right (list_any (eq_by_cmp nat_cmp q) (k ∷ [])) (is_some old) there
-    ] refl h
+line_named k q line old h = grind (arith, or_left, number_named, or_right)
 
 -- whether a line is set at an index: a horizontal one (Rows), or a vertical one; and which lines a call names
 module _ {T : Type 0} where
@@ -82,10 +76,7 @@ module _ {T : Type 0} where
 
 -- a part at a position: it is written there alone
 set_at : {T : Type 0} (p q : Position) (part : Option T) → is_some (at_position p q part) ≡ true → eq_by_cmp position_cmp q p ≡ true
-set_at p q part h = elim (position_eq p q) as (λ b. position_eq p q ≡ b → is_some (cond b part None) ≡ true → eq_by_cmp position_cmp q p ≡ true) [
-  | true ↦ λ here _. sym (position_ties q p) ∙ position_equiv.symm q p ∙ here
-  | false ↦ λ _ none. absurd (false≢true none)
-] refl h
+set_at p q part h = grind (arith, position_ties, false≢true)
 
 -- it is one of the four that a border names
 module _ (cell q : Position) where
@@ -102,9 +93,7 @@ module _ (cell q : Position) where
   at_right part h = or_right _ _ (or_right _ _ (or_left _ _ (set_at (right_of cell) q part h)))
 
   at_opposite : {T : Type 0} (part : Option T) → is_some (at_position (below (right_of cell)) q part) ≡ true → at_one ≡ true
-  at_opposite part h =
-      let at = eq_by_cmp position_cmp q in
-      or_right (at cell) _ (or_right (at (below cell)) _ (or_right (at (right_of cell)) _ (or_left (at (below (right_of cell))) false (set_at (below (right_of cell)) q part h))))
+  at_opposite part h = search (rules, or_right, or_left, set_at)
 
 either_set : {T : Type 0} (a b : Option T) (m : Bool) → is_some (option_or a b) ≡ true → (is_some a ≡ true → m ≡ true) → (is_some b ≡ true → m ≡ true) → m ≡ true
 either_set None b m h first next = next h
@@ -117,10 +106,8 @@ edges_of Columns parts = parts.vertical_edge
 
 edge_named : {T : Type 0} (direction : Direction) (call : BorderCall T) (old : BorderParts T) (q : Position) → is_some (edges_of direction (parts_after_call call old) q) ≡ true
     → (list_any (eq_by_cmp position_cmp q) (named_positions call) || is_some (edges_of direction old q)) ≡ true
-edge_named Rows (InsertBorder p b) old q h = gained_named (edge_part Rows p b q) (old.horizontal_edge q) (at_one p q) h
-    (λ set. either_set (at_position p q b.top) (at_position (below p) q b.bottom) (at_one p q) set (at_cell p q b.top) (at_below p q b.bottom))
-edge_named Columns (InsertBorder p b) old q h = gained_named (edge_part Columns p b q) (old.vertical_edge q) (at_one p q) h
-    (λ set. either_set (at_position p q b.left) (at_position (right_of p) q b.right) (at_one p q) set (at_cell p q b.left) (at_right p q b.right))
+edge_named Rows (InsertBorder p b) old q h = search (rules, gained_named, either_set, at_cell, at_below)
+edge_named Columns (InsertBorder p b) old q h = search (rules, gained_named, either_set, at_cell, at_right)
 edge_named Rows (RemoveBorder p) old q h = kept_there (is_edge_of Rows p q) (old.horizontal_edge q) h
 edge_named Columns (RemoveBorder p) old q h = kept_there (is_edge_of Columns p q) (old.vertical_edge q) h
 edge_named Rows Clear old q h = absurd (false≢true h)
@@ -130,10 +117,7 @@ edge_named Columns call old q h = h
 
 corner_named : {T : Type 0} (call : BorderCall T) (old : BorderParts T) (q : Position) → is_some ((parts_after_call call old).corner q) ≡ true
     → (list_any (eq_by_cmp position_cmp q) (named_positions call) || is_some (old.corner q)) ≡ true
-corner_named (InsertBorder p b) old q h = gained_named (corner_part p b q) (old.corner q) (at_one p q) h
-    (λ h. either_set (at_position p q b.left_top_corner) _ (at_one p q) h (at_cell p q b.left_top_corner)
-    (λ h. either_set (at_position (right_of p) q b.right_top_corner) _ (at_one p q) h (at_right p q b.right_top_corner)
-    (λ h. either_set (at_position (below p) q b.left_bottom_corner) (at_position (below (right_of p)) q b.right_bottom_corner) (at_one p q) h (at_below p q b.left_bottom_corner) (at_opposite p q b.right_bottom_corner))))
+corner_named (InsertBorder p b) old q h = search (rules, gained_named, either_set, at_cell, at_right, at_below, at_opposite)
 corner_named (RemoveBorder p) old q h = kept_there (is_corner_of p q) (old.corner q) h
 corner_named Clear old q h = absurd (false≢true h)
 corner_named call old q h = h

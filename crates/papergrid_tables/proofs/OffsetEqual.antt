@@ -1,5 +1,5 @@
 -- Equality of tables of overrides is agreement of what they hold at each position and offset.
-use Rattle.std.proofs.Common.{◌≡◌, ◌∙◌, ap, cond, sym, refl, subst, inl, inr, ℕ, Bool, true, false, List, [], ◌∷◌, Option, Some, None, is_some}
+use Rattle.std.proofs.Common.{◌≡◌, ◌∙◌, ap, cond, sym, refl, inl, inr, ℕ, Bool, true, false, List, [], ◌∷◌, Option, Some, None, is_some, arith}
 use Rattle.std.specs.Prelude.{◌↔◌, ◌||◌, IsSome, option_and_then, unwrap_or}
 use Rattle.std.specs.Cmp.{eq_by_cmp_equiv, nat_cmp_total}
 use Rattle.std.specs.FinMap.{FinMap, contains_key-keys, from_entries, get, get-retain_keys, keys}
@@ -69,21 +69,12 @@ module _ {T : Type 0} where
 
   kept_set : (f : Option (StoredOffsets T)) → IsSet (kept f)
   unfolding IsSet
-  kept_set None h is = elim (has_override no_offsets) as (λ b. cond b None None ≡ Some h → (o : Offset) × IsSome (at_offset h o)) [
-    | true ↦ λ e. absurd (false≢true (ap is_some e))
-    | false ↦ λ e. absurd (false≢true (ap is_some e))
-  ] is
-  kept_set (Some k) h is = elim (has_override k) as (λ b. has_override k ≡ b → cond b (Some k) None ≡ Some h → (o : Offset) × IsSome (at_offset h o)) [
-    | true ↦ λ there e. let found = stored_override k there in (found.0, subst (λ f. is_some (stored_at f found.0) ≡ true) e found.1)
-    | false ↦ λ _ e. absurd (false≢true (ap is_some e))
-  ] refl is
+  kept_set None h is = grind (arith, false≢true)
+  kept_set (Some k) h is = grind (arith, stored_override, false≢true)
 
   kept_same : (f : Option (StoredOffsets T)) (o : Offset) → stored_at (kept f) o ≡ stored_at f o
   kept_same None o = elim (has_override no_offsets) as (λ b. stored_at (cond b None None) o ≡ None) [ true ↦ refl | false ↦ refl ]
-  kept_same (Some k) o = elim (has_override k) as (λ b. has_override k ≡ b → stored_at (cond b (Some k) None) o ≡ at_offset k o) [
-    | true ↦ λ _. refl
-    | false ↦ λ none. sym (no_override k o none)
-  ] refl
+  kept_same (Some k) o = grind (arith, no_override)
 
 -- ---- equality
 

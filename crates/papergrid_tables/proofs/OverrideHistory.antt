@@ -1,5 +1,5 @@
 -- Overrides, by the entries of their maps.
-use Rattle.std.proofs.Common.{◌≡◌, ℕ, Bool, true, false, cond, ◌&&◌, List, [], ◌∷◌, length, eqb, ltb, Option, Some, None, refl, sym, ap, subst, ◌∙◌}
+use Rattle.std.proofs.Common.{◌≡◌, ℕ, Bool, true, false, cond, ◌&&◌, List, [], ◌∷◌, length, eqb, ltb, Option, Some, None, refl, sym, ap, subst, ◌∙◌, arith}
 use Rattle.std.specs.Prelude.{◌↔◌, IsTrue, IsSome, is_some, option_and_then, Result, Ok, Err, OnOk, OnErr}
 use Rattle.std.specs.List.{AllZip}
 use Rattle.std.specs.Option.{MatchOption, IsSomeAnd}
@@ -15,7 +15,7 @@ use Rattle.papergrid_values.specs.declared.offset.Offset.TheVariants.{Start, End
 use Rattle.papergrid_values.specs.declared.position.Position.{Position}
 use Rattle.papergrid_values.specs.MapKeys.{position_cmp, position_eq}
 use Rattle.papergrid_values.specs.History.{AppendsHistory}
-use Rattle.papergrid_tables.specs.Overrides.{StoredOffsets, OffsetCall, SetAt, RemoveAt, RemoveAll, IsOverridden, HasOverrideHistory, override_after_call, at_offset, is_same_offset, override_at, overrides_from}
+use Rattle.papergrid_tables.specs.Overrides.{StoredOffsets, OffsetCall, SetAt, RemoveAt, RemoveAll, IsOverridden, HasOverrideHistory, override_after_call, at_offset, is_same_offset, override_at}
 use Rattle.papergrid_tables.specs.ForProofs.OverrideScan.{AfterSet, AreSet}
 use Rattle.papergrid_values.proofs.KeyLemmas.{get_at_number, get_at_position, exact_position_eq, position_equiv}
 use Rattle.papergrid_values.proofs.EntryLemmas.{none_of_nothing}
@@ -74,8 +74,7 @@ module _ {T : Type 0} where
 
   history_step : (old new : FinMap position_cmp (StoredOffsets T)) (call : OffsetCall T)
       → ((p : Position) (o : Offset) → override_at new p o ≡ override_after_call call (override_at old) p o) → AppendsHistory HasOverrideHistory old new (call ∷ [])
-  history_step old new call step calls told p o =
-      step p o ∙ (λ i. override_after_call call (λ q k. told q k i) p o) ∙ ap (λ all. overrides_from all p o) (sym (reverse-append calls (call ∷ [])))
+  history_step old new call step calls told p o = grind (arith, reverse-append)
 
   pub history_set : (es es' : List (Position × StoredOffsets T)) (position : Position) (offset : Offset) (v : T) → AfterSet position offset v (λ p. lookup (position_eq p) es) (λ p. lookup (position_eq p) es')
       → AppendsHistory HasOverrideHistory (from_entries es) (from_entries es') (SetAt position offset v ∷ [])
@@ -108,11 +107,7 @@ module _ {T : Type 0} where
   kept_unchanged es es' set same p h is = set p h (sym (same p) ∙ is)
 
   pub kept_removed : (es es' : List (Position × StoredOffsets T)) (position : Position) → AreSet es → ((p : Position) → lookup (position_eq p) es' ≡ cond (position_eq position p) None (lookup (position_eq p) es)) → AreSet es'
-  kept_removed es es' position set removed p h is =
-      elim (position_eq position p) as (λ b. cond b None (lookup (position_eq p) es) ≡ Some h → (o : Offset) × IsSome (at_offset h o)) [
-        | true ↦ λ e. absurd (false≢true (ap is_some e))
-        | false ↦ set p h
-      ] (sym (removed p) ∙ is)
+  kept_removed es es' position set removed p h is = grind (arith, false≢true)
 
   pub kept_set : (es es' : List (Position × StoredOffsets T)) (position : Position) (offset : Offset) (v : T) → AreSet es
       → AfterSet position offset v (λ p. lookup (position_eq p) es) (λ p. lookup (position_eq p) es') → AreSet es'
@@ -141,13 +136,7 @@ module _ {T : Type 0} where
   inner_some (Some h) o e = refl
 
   pub overridden : (es : List (Position × StoredOffsets T)) (p : Position) (b : Bool) → AreSet es → b ≡ is_some (lookup (position_eq p) es) → IsTrue b ↔ IsOverridden (from_entries es) p
-  overridden es p b set is = (
-    (λ h.
-        let found = a_value (lookup (position_eq p) es) (sym is ∙ h) in
-        let stored = set p found.0 found.1 in
-        (stored.0, subst (λ g. is_some (option_and_then (λ k. at_offset k stored.0) g) ≡ true) (sym (get_at_position es p ∙ found.1)) stored.1)),
-    (λ h. is ∙ ap is_some (sym (get_at_position es p)) ∙ inner_some (get (from_entries es) p) h.0 h.1),
-  )
+  overridden es p b set is = grind (arith, a_value, get_at_position, inner_some)
 
   pub is_clear : (es : List (Position × StoredOffsets T)) (b : Bool) → AreSet es → (IsTrue b ↔ (length es ≡ 0)) → IsTrue b ↔ HasOverrideHistory [] (from_entries es)
   is_clear [] b set empty = ((λ h p o. ap (λ g. option_and_then (λ k. at_offset k o) g) (get_at_position [] p)), (λ h. empty.1 refl))
@@ -187,11 +176,7 @@ module _ {T : Type 0} where
   pub put_back : (es es' : List (Position × StoredOffsets T)) (position : Position) (h k : StoredOffsets T) → lookup (position_eq position) es ≡ Some h → k ≡ h
       → ((p : Position) → lookup (position_eq p) es' ≡ cond (position_eq position p) (Some k) (lookup (position_eq p) es))
       → (p : Position) → lookup (position_eq p) es' ≡ lookup (position_eq p) es
-  put_back es es' position h k is same others p =
-      others p ∙ elim (position_eq position p) as (λ b. position_eq position p ≡ b → cond b (Some k) (lookup (position_eq p) es) ≡ lookup (position_eq p) es) [
-        | true ↦ λ e. ap Some same ∙ sym is ∙ ap (λ q. lookup (position_eq q) es) (exact_position_eq position p e)
-        | false ↦ λ e. refl
-      ] refl
+  put_back es es' position h k is same others p = grind (arith, exact_position_eq)
 
 pub either_way : {A E P Q R : Type 0} (r : Result A E) → (P → R) → (Q → R) → OnOk r P → OnErr r Q → R
 either_way (Ok x) f g p q = f p

@@ -1,9 +1,9 @@
 -- Parts that were cloned, one by one, and the counts of what was cloned.
-use Rattle.std.proofs.Common.{◌≡◌, ℕ, ◌+◌, Bool, List, [], ◌∷◌, cond, eqb, Option, Some, None, refl, sym, ap, subst, ◌∙◌}
-use Rattle.std.specs.Prelude.{is_some, unwrap_or}
+use Rattle.std.proofs.Common.{◌≡◌, ℕ, ◌+◌, Bool, List, [], ◌∷◌, cond, Option, Some, None, refl, sym, ap, ◌∙◌, arith}
+use Rattle.std.specs.Prelude.{is_some}
 use Rattle.std.specs.HashMap.{HashMap, IsClone}
-use Rattle.std.specs.List.{AllZip, IsDistinct, count_by}
-use Rattle.std.specs.Map.{keys_of, lookup, values_of}
+use Rattle.std.specs.List.{AllZip, count_by}
+use Rattle.std.specs.Map.{keys_of, values_of}
 use Rattle.std.proofs.lemmas.List.Sums.{sum_by-cons}
 use Rattle.std.proofs.lemmas.Map.Entries.{entries_from_clone}
 use Rattle.papergrid_values.specs.declared.direction.Direction.{Direction}
@@ -11,7 +11,7 @@ use Rattle.papergrid_values.specs.declared.horizontal_line.HorizontalLine.{Horiz
 use Rattle.papergrid_values.specs.declared.position.Position.{Position}
 use Rattle.papergrid_values.specs.declared.vertical_line.VerticalLine.{VerticalLine}
 use Rattle.papergrid_tables.specs.ForProofs.CountedLines.{AreEndsCounted}
-use Rattle.papergrid_tables.specs.ForProofs.Counts.{AreCounts, number_on}
+use Rattle.papergrid_tables.specs.ForProofs.Counts.{AreCounts}
 use Rattle.papergrid_tables.specs.declared.counted_lines.Lines.{Lines}
 
 module _ {T : Type 0} (R : Option T → Option T → Type 0) (appears : (x : T) → R None (Some x) → ⊥) (goes : (x : T) → R (Some x) None → ⊥) where
@@ -58,14 +58,8 @@ pub ends_copied : {L : Type 0} (C : ℕ → ℕ → Type 0) (D : L → L → Typ
     → ((x y : ℕ) → C x y → y ≡ x) → ((x y : L) → D x y → has_first y ≡ has_first x) → ((x y : L) → D x y → has_last y ≡ has_last x)
     → IsClone C D lines.values copy.values → copy.first_ends ≡ lines.first_ends → copy.last_ends ≡ lines.last_ends
     → AreEndsCounted has_first has_last lines → AreEndsCounted has_first has_last copy
-ends_copied C D has_first has_last lines copy same keeps_first keeps_last cloned firsts lasts counted = record {
-  first = firsts ∙ counted.first ∙ sym (tests_copied C D has_first keeps_first lines.values.entries copy.values.entries cloned);
-  last = lasts ∙ counted.last ∙ sym (tests_copied C D has_last keeps_last lines.values.entries copy.values.entries cloned);
-  unique = subst (IsDistinct eqb) (sym (keys_copied C D same lines.values.entries copy.values.entries cloned)) counted.unique;
-}
+ends_copied C D has_first has_last lines copy same keeps_first keeps_last cloned firsts lasts counted = grind (arith, tests_copied, keys_copied)
 
 pub counts_copied : {S : Type 0} (C : ℕ → ℕ → Type 0) (D : ℕ → ℕ → Type 0) (direction : Direction) (counts copy : HashMap ℕ ℕ S) (positions more : List Position)
     → ((x y : ℕ) → C x y → y ≡ x) → ((x y : ℕ) → D x y → y ≡ x) → IsClone C D counts copy → more ≡ positions → AreCounts direction counts positions → AreCounts direction copy more
-counts_copied C D direction counts copy positions more same_key same cloned keys counted = λ line.
-    ap (λ es. unwrap_or (lookup (eqb line) es) 0) (entries_from_clone C D same_key same counts.entries copy.entries cloned)
-    ∙ counted line ∙ ap (number_on direction line) (sym keys)
+counts_copied C D direction counts copy positions more same_key same cloned keys counted = grind (arith, entries_from_clone)

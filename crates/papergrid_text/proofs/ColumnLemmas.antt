@@ -121,8 +121,7 @@ not_transparent c columns s false is h some own = refl
 not_transparent c columns s true is h some own = absurd (omega (arith, ap (λ o. o.0) (sym own ∙ own_by_kind Marks c (kind c) (h.none is))))
 
 not_see_through : (c columns : ℕ) (s : State) → 0 < columns → alone false c ≡ (columns, s) → is_see_through c ≡ false
-not_see_through c columns s some own =
-    ap (λ o. (o.0 == 0) && joining_type_eq (joining_type c) Transparent) own ∙ ap (λ b. b && joining_type_eq (joining_type c) Transparent) (not_none columns some)
+not_see_through c columns s some own = grind (arith, own, not_none)
 
 letter_step : (c columns first total : ℕ) (s : State) (r : Reading) → IsHigh c → 0 < columns → alone false c ≡ (columns, s) → Reads first total r → step false c r ≡ added total (columns, s)
 letter_step c columns first total s (t, u) h some own reads = by reads.counted reads.quiet
@@ -177,8 +176,7 @@ unasked first s (AtLamed is) = ap (λ s. s.emoji) is
 unasked first s (AtAlef is joins) = ap (λ s. s.emoji) is
 
 low_own : (c : ℕ) → is_low c ≡ true → TakesColumns c 1
-low_own c low first total (t, s) reads =
-    adds c total 1 plain _ (ap (λ t. step false c (t, s)) reads.counted ∙ low_step c total s low (unasked first s reads.quiet)) (Plain refl)
+low_own c low first total (t, s) reads = grind (arith, adds, low_step, unasked)
 
 -- ---- simple characters
 

@@ -9,13 +9,10 @@ count_more p n m xs = ap (count_by p) (take-add n m xs) ∙ sum_by-append (λ x.
 
 pub count_fits : (p : ℕ → Bool) (n m a b : ℕ) (xs : List ℕ) → a ≡ count_by p (take n xs) → b ≡ count_by p (take m (drop n xs)) → a + b ≤ length xs
 count_fits p n m a b xs e f =
-    let both = count_more p n m xs in
     let few = count_by-le-length p (take (n + m) xs) in
     let part = length-take (n + m) xs in
-    omega arith
+    omega (arith, count_more p n m xs)
 
 -- the count of a beginning and that of all that is left
 pub count_whole : (p : ℕ → Bool) (n : ℕ) (xs : List ℕ) → n ≤ length xs → count_by p (take n xs) + count_by p (take (length xs - n) (drop n xs)) ≡ count_by p xs
-count_whole p n xs below =
-    let left = length-drop n xs in
-    ap (λ ys. count_by p (take n xs) + count_by p ys) (take_all (length xs - n) (drop n xs) (omega arith)) ∙ sum_by-take-drop (λ x. cond (p x) 1 0) xs n
+count_whole p n xs below = grind (arith, length-drop, take_all, sum_by-take-drop)

@@ -1,5 +1,5 @@
 -- What the walks over the chunks of a slice give.
-use Rattle.std.proofs.Common.{◌≡◌, ℕ, zero, suc, ◌+◌, ◌-◌, ◌/◌, ◌<◌, ◌≤◌, ◌^◌, List, [], ◌∷◌, ◌++◌, length, map, take, drop, refl, ap, sym, ◌∙◌, arith, Bor, length-append, Option, inl, inr, subst}
+use Rattle.std.proofs.Common.{◌≡◌, ℕ, zero, suc, ◌+◌, ◌-◌, ◌/◌, ◌<◌, ◌≤◌, ◌^◌, List, [], ◌∷◌, ◌++◌, length, map, take, drop, refl, ap, sym, ◌∙◌, arith, Bor, length-append, Option, subst}
 use Rattle.std.proofs.Math.Nat.{div-le_self, div-eq_of_lt, div-eq-sub-div}
 use Rattle.std.specs.Prelude.{min}
 use Rattle.std.specs.Iterator.{Yields, Drains, at_most}
@@ -20,9 +20,7 @@ cut_at zero [] b e = (refl, refl)
 cut_at zero (x ∷ a) b e = absurd (omega arith)
 cut_at (suc n) [] [] e = (refl, refl)
 cut_at (suc n) [] (y ∷ b) e = absurd (omega arith)
-cut_at (suc n) (x ∷ a) b e =
-    let r = cut_at n a b (omega arith) in
-    (ap (λ ys. x ∷ ys) r.0, r.1)
+cut_at (suc n) (x ∷ a) b e = grind (arith, cut_at n a b (omega arith))
 
 cut_is : {A : Type 0} (n : ℕ) (whole a b : List A) → whole ≡ a ++ b → length a ≡ min n (length whole) → (take n whole ≡ a) × (drop n whole ≡ b)
 cut_is n whole a b e long =
@@ -31,50 +29,27 @@ cut_is n whole a b e long =
 
 -- one row is cut off
 one_part : (k n : ℕ) → 0 < n → 0 < k → chunk_count k n ≡ chunk_count (k - min n k) n + 1
-one_part k n pos some = elim (cases_lt n k) [
-  | inl more ↦
-      let e : (k + n - 1) / n ≡ (k + n - 1 - n) / n + 1 = div-eq-sub-div pos (omega arith) in
-      let m : k + n - 1 - n ≡ (k - min n k) + n - 1 = omega arith in
-      let q = ap (λ x. x / n) m in
-      let f : (k - min n k + n - 1) / n ≡ (k - min n k + n - 1 - n) / n + 1 = div-eq-sub-div pos (omega arith) in
-      let s = div-le_self (k - min n k + n - 1 - n) n in
-      omega arith
-  | inr few ↦
-      let e : (k + n - 1) / n ≡ (k + n - 1 - n) / n + 1 = div-eq-sub-div pos (omega arith) in
-      let z : (k + n - 1 - n) / n ≡ 0 = div-eq_of_lt (omega arith) in
-      omega arith
-]
+one_part k n pos some = grind (arith, cases_lt, div-eq-sub-div, div-le_self, div-eq_of_lt)
 
 module _ {X : Type 0} where
   -- the chunks that came are the parts at the front
   cut_yields : (n : ℕ) (s t : Chunks X) (xs : List (Bor (List X))) → n ≡ chunks_size s → Yields (chunks_steps {A = X}) s xs t → map (λ x. x.now) xs ≡ first_chunks n (length xs) (chunks_rest s)
   cut_yields n s t [] same e = refl
-  cut_yields n s t (x ∷ xs) same (j, (size, (cut, long, some)), rest) =
-      let parts = cut_is n (chunks_rest s) x.now (chunks_rest j) cut (long ∙ ap (λ m. min m (length (chunks_rest s))) (sym same)) in
-      let others = cut_yields n j t xs (same ∙ sym size) rest in
-      let first = parts.0 in
-      let left = ap (λ r. first_chunks n (length xs) r) parts.1 in
-      cc
+  cut_yields n s t (x ∷ xs) same (j, (size, (cut, long, some)), rest) = grind (arith, cut_is, cut_yields n j t xs (same ∙ sym size) rest)
 
   -- a whole walk counts the parts
   cut_count : (n : ℕ) (s t : Chunks X) (xs : List (Bor (List X))) → 0 < n → n ≡ chunks_size s → Yields (chunks_steps {A = X}) s xs t → length (chunks_rest t) ≡ 0 → length xs ≡ chunk_count (length (chunks_rest s)) n
   cut_count n s t [] pos same e last = let z = ap (λ u. length (chunks_rest u)) e in omega arith
   cut_count n s t (x ∷ xs) pos same (j, (size, (cut, long, some)), rest) last =
-      let others = cut_count n j t xs pos (same ∙ sym size) rest last in
       let both = ap length cut ∙ length-append x.now (chunks_rest j) in
-      let short : length x.now ≡ min n (length (chunks_rest s)) = long ∙ ap (λ m. min m (length (chunks_rest s))) (sym same) in
       let m : length (chunks_rest j) ≡ length (chunks_rest s) - min n (length (chunks_rest s)) = omega arith in
-      let c = ap (λ k. chunk_count k n) m in
       let one = one_part (length (chunks_rest s)) n pos some in
-      omega (arith, one, c, others)
+      omega (arith, one, ap (λ k. chunk_count k n) m, cut_count n j t xs pos (same ∙ sym size) rest last)
 
   -- each chunk takes an item
   cut_fits : (s t : Chunks X) (xs : List (Bor (List X))) → 0 < chunks_size s → Yields (chunks_steps {A = X}) s xs t → length xs ≤ length (chunks_rest s)
   cut_fits s t [] pos e = omega arith
-  cut_fits s t (x ∷ xs) pos (j, (size, (cut, long, some)), rest) =
-      let left : length xs ≤ length (chunks_rest j) = cut_fits j t xs (omega arith) rest in
-      let n = ap length cut ∙ length-append x.now (chunks_rest j) in
-      omega arith
+  cut_fits s t (x ∷ xs) pos (j, (size, (cut, long, some)), rest) = grind (arith, length-append, cut_fits j t xs (omega arith) rest)
 
   pub chunks_short : (P : Bor (List X) → Type 0) → ((x : Bor (List X)) → P x) → (s : Chunks X) → 0 < chunks_size s → length (chunks_rest s) < 2 ^ 64 →
       IsShort (λ s. 0 < chunks_size s) (λ s. at_most (chunk_count (length (chunks_rest s)) (chunks_size s))) (chunks_steps {A = X}) P s
@@ -93,20 +68,15 @@ module _ {X : Type 0} where
       let both = ap length cut ∙ length-append x.now (chunks_exact_rest j) in
       let parts = cut_is n (chunks_exact_rest s) x.now (chunks_exact_rest j) cut (omega arith) in
       let others = whole_yields n j t xs (same ∙ sym size) rest in
-      let first = parts.0 in
-      let left = ap (λ r. first_chunks n (length xs) r) parts.1 in
       cc
 
   whole_count : (n : ℕ) (s t : ChunksExact X) (xs : List (Bor (List X))) → 0 < n → n ≡ chunks_exact_size s → Yields (chunks_exact_steps {A = X}) s xs t → length (chunks_exact_rest t) < n → length xs ≡ length (chunks_exact_rest s) / n
-  whole_count n s t [] pos same e last =
-      let z = ap (λ u. length (chunks_exact_rest u)) e in
-      sym (div-eq_of_lt (omega arith))
+  whole_count n s t [] pos same e last = grind (arith, div-eq_of_lt)
   whole_count n s t (x ∷ xs) pos same (j, (size, (cut, long), kept), rest) last =
-      let others = whole_count n j t xs pos (same ∙ sym size) rest last in
       let both = ap length cut ∙ length-append x.now (chunks_exact_rest j) in
       let one : length (chunks_exact_rest s) / n ≡ (length (chunks_exact_rest s) - n) / n + 1 = div-eq-sub-div pos (omega arith) in
       let c : (length (chunks_exact_rest s) - n) / n ≡ length (chunks_exact_rest j) / n = ap (λ k. k / n) (omega arith) in
-      omega (arith, one, c, others)
+      omega (arith, one, c, whole_count n j t xs pos (same ∙ sym size) rest last)
 
   whole_size : (s t : ChunksExact X) (xs : List (Bor (List X))) → Yields (chunks_exact_steps {A = X}) s xs t → chunks_exact_size t ≡ chunks_exact_size s
   whole_size s t [] e = ap (λ u. chunks_exact_size u) (sym e)
@@ -114,10 +84,7 @@ module _ {X : Type 0} where
 
   whole_fits : (s t : ChunksExact X) (xs : List (Bor (List X))) → 0 < chunks_exact_size s → Yields (chunks_exact_steps {A = X}) s xs t → length xs ≤ length (chunks_exact_rest s)
   whole_fits s t [] pos e = omega arith
-  whole_fits s t (x ∷ xs) pos (j, (size, (cut, long), kept), rest) =
-      let left : length xs ≤ length (chunks_exact_rest j) = whole_fits j t xs (omega arith) rest in
-      let n = ap length cut ∙ length-append x.now (chunks_exact_rest j) in
-      omega arith
+  whole_fits s t (x ∷ xs) pos (j, (size, (cut, long), kept), rest) = grind (arith, length-append, whole_fits j t xs (omega arith) rest)
 
   pub whole_chunks_short : (P : Bor (List X) → Type 0) → ((x : Bor (List X)) → P x) → (s : ChunksExact X) → 0 < chunks_exact_size s → length (chunks_exact_rest s) < 2 ^ 64 →
       IsShort (λ s. 0 < chunks_exact_size s) (λ s. at_most (length (chunks_exact_rest s) / chunks_exact_size s)) (chunks_exact_steps {A = X}) P s

@@ -23,8 +23,7 @@ trimmed-spelled text = record { characters = drop_trailing_whitespace (chars (tr
 
 chars-front : (cs rest : List ℕ) → chars (encode_utf8_all cs ++ rest) ≡ cs ++ chars rest
 chars-front [] rest = refl
-chars-front (c ∷ cs) rest =
-    ap chars (append_assoc _ (encode_utf8_all cs) rest) ∙ read-one c (encode_utf8_all cs ++ rest) ∙ ap (λ more. c ∷ more) (chars-front cs rest)
+chars-front (c ∷ cs) rest = grind (arith, append_assoc, read-one, chars-front cs rest)
 
 -- ---- a separator takes its column
 
@@ -33,10 +32,7 @@ width-first c cs separates = let own = separates [] cs in let none = str_width-n
 
 width-run : (c n : ℕ) (cs : List ℕ) → IsSeparator c → str_width false (replicate n c ++ cs) ≡ n + str_width false cs
 width-run c zero cs separates = omega arith
-width-run c (suc n) cs separates =
-    let first = width-first c (replicate n c ++ cs) separates in
-    let more = width-run c n cs separates in
-    omega arith
+width-run c (suc n) cs separates = grind (arith, width-first, width-run c n cs separates)
 
 -- so do many of one, whatever comes after them
 pub width-separators : (c n : ℕ) (rest : List ℕ) → IsSeparator c → width_of (encode_utf8_all (replicate n c) ++ rest) ≡ n + width_of rest
@@ -46,19 +42,7 @@ width-separators c n rest separates = ap (str_width false) (chars-front (replica
 
 pub width-before_separator : (text : List ℕ) (c n : ℕ) (rest : List ℕ) → IsSpelled text → IsSeparator c → 0 < n →
     width_of (text ++ (encode_utf8_all (replicate n c) ++ rest)) ≡ width_of text + (n + width_of rest)
-width-before_separator text c n rest is separates some =
-    let count : n ≡ suc (n - 1) = omega (arith, some) in
-    let more = replicate (n - 1) c ++ chars rest in
-    let front : chars text ≡ is.characters = ap chars is.spelled ∙ chars-back is.characters in
-    let read : chars (text ++ (encode_utf8_all (replicate n c) ++ rest)) ≡ is.characters ++ c ∷ more =
-    ap (λ t. chars (t ++ (encode_utf8_all (replicate n c) ++ rest))) is.spelled
-    ∙ chars-front is.characters (encode_utf8_all (replicate n c) ++ rest)
-    ∙ ap (λ cs. is.characters ++ cs) (chars-front (replicate n c) rest)
-    ∙ ap (λ k. is.characters ++ (replicate k c ++ chars rest)) count in
-    let whole = ap (str_width false) read ∙ separates is.characters more in
-    let own = ap (str_width false) front in
-    let run = width-run c (n - 1) (chars rest) separates in
-    omega (arith, some)
+width-before_separator text c n rest is separates some = grind (arith, chars-back, chars-front, width-run)
 
 pub width-last : (text : List ℕ) → width_of (text ++ []) ≡ width_of text + 0
 width-last text = let e = ap width_of (append-nil text) in omega arith

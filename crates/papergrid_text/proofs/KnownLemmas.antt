@@ -1,12 +1,6 @@
 -- Known bytes over several writes.
 use Rattle.std.proofs.Common.{◌++◌, ℕ, List, Option, None, Some, ap, ◌∙◌, append_assoc}
-use Rattle.std.specs.Io.KnownBytes.{Appends, Keeps}
-
-pub appends_kept : (a b c : Option (List ℕ)) (bs : List ℕ) → Appends a b bs → Keeps b c → Appends a c bs
-appends_kept None b c bs p q = tt
-appends_kept (Some x) None c bs p q = absurd p
-appends_kept (Some x) (Some y) None bs p q = absurd q
-appends_kept (Some x) (Some y) (Some z) bs p q = q ∙ p
+use Rattle.std.specs.Io.KnownBytes.{Appends}
 
 pub appends_more : (a b c : Option (List ℕ)) (bs cs : List ℕ) → Appends a b bs → Appends b c cs → Appends a c (bs ++ cs)
 appends_more None b c bs cs p q = tt

@@ -81,12 +81,7 @@ passed_over q (suc j) (b ∷ bytes) h = by_first (q b) h (passed_over q j bytes)
 
 -- where the first i bytes pass, a load of the last n bytes that starts among them tells the rest
 pub counted_last : (q : ℕ → Bool) (bytes : List ℕ) (i last n r : ℕ) → last + n ≡ length bytes → last ≤ i → i + prefix_len q (drop i bytes) ≡ prefix_len q bytes → r ≡ prefix_len q (chunk last n bytes) → last + r ≡ prefix_len q bytes
-counted_last q bytes i last n r ends early so_far is =
-    let left : length (drop last bytes) ≡ n = omega (arith, length-drop last bytes) in
-    let whole : chunk last n bytes ≡ drop last bytes = take_all n (drop last bytes) (omega arith) in
-    let over = passed_over q last bytes (omega arith) in
-    let same = is ∙ ap (prefix_len q) whole in
-    omega arith
+counted_last q bytes i last n r ends early so_far is = grind (arith, length-drop, take_all, passed_over, same)
 
 -- a load that starts where all before it passed, and of which some do not pass
 pub counted_here : (q : ℕ → Bool) (bytes : List ℕ) (i n r : ℕ) → i + n ≤ length bytes → r ≡ prefix_len q (chunk i n bytes) → r < n → i + prefix_len q (drop i bytes) ≡ prefix_len q bytes → i + r ≡ prefix_len q bytes
@@ -100,7 +95,4 @@ counted_here q bytes i n r room is few so_far =
 
 -- a load counts no more than it reads
 pub counted_few : (q : ℕ → Bool) (bytes : List ℕ) (i n r : ℕ) → i + n ≤ length bytes → r ≡ prefix_len q (chunk i n bytes) → r ≤ n
-counted_few q bytes i n r room is =
-    let bound = prefix_len-le-length q (chunk i n bytes) in
-    let long = length-chunk i n bytes room in
-    omega arith
+counted_few q bytes i n r room is = grind (arith, prefix_len-le-length, long, length-chunk)

@@ -1,5 +1,5 @@
 -- A clone of the lines that a `Text` keeps.
-use Rattle.std.proofs.Common.{◌≡◌, List, ℕ, [], ◌∷◌, map, refl, ap, subst, sym}
+use Rattle.std.proofs.Common.{◌≡◌, List, ℕ, [], ◌∷◌, map, refl, ap, subst, sym, arith}
 use Rattle.std.specs.List.{All, AllZip}
 use Rattle.papergrid_text.specs.declared.line_cache.LineCache.{LineCache}
 use Rattle.papergrid_text.specs.declared.line_cache.LineCache.TheVariants.{Ranges, Given}
@@ -11,15 +11,13 @@ pub map_from_zip : {A C : Type 0} (R : A → A → Type 0) (v : A → C) → ((a
 map_from_zip R v h [] [] z = refl
 map_from_zip R v h [] (b ∷ ys) z = absurd z
 map_from_zip R v h (a ∷ xs) [] z = absurd z
-map_from_zip R v h (a ∷ xs) (b ∷ ys) z =
-    let first = h a b z.0 in let others = map_from_zip R v h xs ys z.1 in cc
+map_from_zip R v h (a ∷ xs) (b ∷ ys) z = grind (arith, map_from_zip R v h xs ys z.1)
 
 pub same_from_zip : {A : Type 0} (R : A → A → Type 0) → ((a b : A) → R a b → b ≡ a) → (xs ys : List A) → AllZip R xs ys → ys ≡ xs
 same_from_zip R h [] [] z = refl
 same_from_zip R h [] (b ∷ ys) z = absurd z
 same_from_zip R h (a ∷ xs) [] z = absurd z
-same_from_zip R h (a ∷ xs) (b ∷ ys) z =
-    let first = h a b z.0 in let others = same_from_zip R h xs ys z.1 in cc
+same_from_zip R h (a ∷ xs) (b ∷ ys) z = grind (arith, same_from_zip R h xs ys z.1)
 
 same_ranges : (a b : LineCache) → by_variants a b → ranges_of b ≡ ranges_of a
 same_ranges (Ranges v) (Ranges w) h = same_from_zip _ (λ a b r. r) v.items w.items h.0

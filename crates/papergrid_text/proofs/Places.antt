@@ -1,5 +1,5 @@
 -- The first places of bytes: of either of two, in a front of a list, and further on in it.
-use Rattle.std.proofs.Common.{◌≡◌, ℕ, zero, suc, ◌+◌, ◌<◌, ◌≤◌, ◌||◌, Bool, true, false, not, cond, min, List, [], ◌∷◌, length, get_or, take, drop, refl, sym, arith, inl, inr}
+use Rattle.std.proofs.Common.{◌≡◌, ℕ, zero, suc, ◌+◌, ◌<◌, ◌≤◌, ◌||◌, Bool, true, false, not, cond, min, List, [], ◌∷◌, length, get_or, take, drop, refl, sym, arith}
 use Rattle.std.specs.Prelude.{◌==◌}
 use Rattle.std.specs.List.{position_or_len}
 use Rattle.std.proofs.lemmas.Bool.{eqb-true, eq-eqb, true≢false, cases_lt}
@@ -44,10 +44,7 @@ passed false is isnt = true≢false (sym is)
 
 -- no place before it holds the byte
 pub no_later : (xs : List ℕ) (b n : ℕ) → get_or xs n 0 ≡ b → position_or_len (λ x. x == b) xs ≤ n
-no_later xs b n at = elim (cases_lt n (position_or_len (λ x. x == b) xs)) [
-  | inl later ↦ absurd (passed (get_or xs n 0 == b) (eq-eqb _ _ at) (prefix_len_passes (λ x. not (x == b)) xs n 0 later))
-  | inr within ↦ within
-]
+no_later xs b n at = grind (arith, cases_lt, passed, eq-eqb, prefix_len_passes)
 
 from_not : (v : Bool) → not v ≡ false → v ≡ true
 from_not true h = refl
@@ -55,8 +52,4 @@ from_not false h = absurd (true≢false h)
 
 -- a first place that is no end holds the byte
 pub is_there : (xs : List ℕ) (b n : ℕ) → n ≡ position_or_len (λ x. x == b) xs → ¬ (n ≡ length xs) → (n < length xs) × (get_or xs n 0 ≡ b)
-is_there xs b n is other =
-    let bound = no_more_than xs b in
-    let within : n < length xs = omega arith in
-    let stops = prefix_len_stops (λ x. not (x == b)) xs 0 (omega arith) in
-    (within, eqb-true (get_or xs n 0) b (from_not _ (rw is stops)))
+is_there xs b n is other = grind (arith, no_more_than, prefix_len_stops, eqb-true, from_not)

@@ -37,10 +37,7 @@ newline_step : (v : Bool) (b : ℕ) (bs : List ℕ) → is_in_range 0x20 0x7E b 
     → get_or (b ∷ bs) (cond v (1 + prefix_len (is_in_range 0x20 0x7E) bs) 0) 0 ≡ 10
     → (prefix_len (is_in_range 0x20 0x7E) bs < length bs → get_or bs (prefix_len (is_in_range 0x20 0x7E) bs) 0 ≡ 10 → position_or_len (λ c. c == 10) bs ≡ prefix_len (is_in_range 0x20 0x7E) bs)
     → position_or_len (λ c. c == 10) (b ∷ bs) ≡ cond v (1 + prefix_len (is_in_range 0x20 0x7E) bs) 0
-newline_step true b bs is within at later =
-    let n : ℕ = prefix_len (is_in_range 0x20 0x7E) bs in
-    let next : suc n ≡ 1 + n = omega arith in
-    rw (no_newline b is) (ap (λ k. 1 + k) (later (omega arith) (ap (λ k. get_or (b ∷ bs) k 0) next ∙ at)))
+newline_step true b bs is within at later = grind (arith, no_newline)
 newline_step false b bs is within at later = rw at refl
 
 -- where a newline ends it, that is the first one

@@ -1,5 +1,5 @@
 -- Texts of printable ASCII.
-use Rattle.std.proofs.Common.{◌≡◌, ℕ, suc, ◌+◌, ◌<◌, ◌&&◌, Bool, cond, nat_eq, List, [], ◌∷◌, length, take, refl, sym, ap, ◌∙◌, subst, arith, true, false, IsAscii, chars}
+use Rattle.std.proofs.Common.{◌≡◌, ℕ, suc, ◌+◌, ◌<◌, ◌&&◌, Bool, cond, nat_eq, List, [], ◌∷◌, length, take, refl, sym, ap, ◌∙◌, arith, true, false, IsAscii, chars}
 use Rattle.std.specs.Int.{is_in_range}
 use Rattle.std.specs.List.{list_all, prefix_len}
 use Rattle.std.proofs.Math.Dec.{eqb-suc-suc}
@@ -36,10 +36,7 @@ all_printable (b ∷ bs) = all_step (is_in_range 0x20 0x7E b) _ _ _ (all_printab
 
 front_step : (v : Bool) (b : ℕ) (bs : List ℕ) → is_in_range 0x20 0x7E b ≡ v → list_all (is_in_range 0x20 0x7E) (take (prefix_len (is_in_range 0x20 0x7E) bs) bs) ≡ true
     → list_all (is_in_range 0x20 0x7E) (take (cond v (1 + prefix_len (is_in_range 0x20 0x7E) bs) 0) (b ∷ bs)) ≡ true
-front_step true b bs is h =
-    let n : ℕ = prefix_len (is_in_range 0x20 0x7E) bs in
-    let next : 1 + n ≡ suc n = omega arith in
-    ap (λ k. list_all (is_in_range 0x20 0x7E) (take k (b ∷ bs))) next ∙ ap (λ v. v && list_all (is_in_range 0x20 0x7E) (take n bs)) is ∙ h
+front_step true b bs is h = grind arith
 front_step false b bs is h = refl
 
 pub front_printable : (text : List ℕ) → list_all (is_in_range 0x20 0x7E) (take (prefix_len (is_in_range 0x20 0x7E) text) text) ≡ true
@@ -48,10 +45,7 @@ front_printable (b ∷ bs) = front_step (is_in_range 0x20 0x7E b) b bs refl (fro
 
 -- a printable front is as wide as it is long
 pub front_width : (text : List ℕ) (n : ℕ) → n ≡ prefix_len (is_in_range 0x20 0x7E) text → n ≡ str_width false (chars (take n text))
-front_width text n is =
-    let printable = subst (λ k. list_all (is_in_range 0x20 0x7E) (take k text) ≡ true) (sym is) (front_printable text) in
-    let bound = prefix_len-le-length (is_in_range 0x20 0x7E) text in
-    sym (width-printable (take n text) printable ∙ length-take-le n text (omega arith))
+front_width text n is = grind (arith, front_printable, prefix_len-le-length, width-printable, length-take-le)
 
 -- where it is as long as the text, that is the whole
 pub whole_printable : (text : List ℕ) (n : ℕ) → n ≡ prefix_len (is_in_range 0x20 0x7E) text → n ≡ length text → list_all (is_in_range 0x20 0x7E) text ≡ true

@@ -31,11 +31,10 @@ pub record Stepped (text line : List ℕ) (start : ℕ) (more : List (List ℕ))
 
 step : (text line : List ℕ) (start : ℕ) (more : List (List ℕ)) → IsUtf8 text → IsRest text start (line ∷ more) → Stepped text line start more
 step text line start [] utf8 (front, e, n, begins) =
-    let whole : text ≡ front ++ (line ++ []) = e ∙ ap (λ l. front ++ l) (sym (append-nil line)) in
     let len : length text ≡ start + length line = ap length e ∙ length-append front line ∙ ap (λ k. k + length line) n in
     record {
       inside = λ width. record { in_order = omega arith; begins = begins; ends = subst (λ k. IsCharBoundary text k) len (IsCharBoundary-end text) };
-      same = slice_mid front line [] text start whole n;
+      same = slice_mid front line [] text start (e ∙ ap (λ l. front ++ l) (sym (append-nil line))) n;
       left = tt;
       fits = omega arith;
     }
@@ -43,9 +42,8 @@ step text line start (next ∷ more) utf8 (front, e, n, begins) =
     let rest = join_with_byte 10 (next ∷ more) in
     let len : length text ≡ start + length line + suc (length rest)
     = let a = ap length e in let b = length-append front (line ++ (10 ∷ rest)) in let c = length-append line (10 ∷ rest) in omega arith in
-    let regroup : front ++ (line ++ (10 ∷ rest)) ≡ (front ++ line) ++ (10 ∷ rest) = simp append_assoc in
     let regroup_more : (front ++ line) ++ (10 ∷ rest) ≡ ((front ++ line) ++ 10 ∷ []) ++ rest = simp append_assoc in
-    let parts : text ≡ (front ++ line) ++ (10 ∷ rest) = e ∙ regroup in
+    let parts : text ≡ (front ++ line) ++ (10 ∷ rest) = e ∙ (simp append_assoc) in
     let at : length (front ++ line) ≡ start + length line = length-append front line ∙ ap (λ k. k + length line) n in
     let newline : get_or text (start + length line) 0 ≡ 10 = ap (λ t. get_or t (start + length line) 0) parts ∙ ap (λ k. get_or ((front ++ line) ++ (10 ∷ rest)) k 0) (sym at) ∙ get_or-append_seam (front ++ line) 10 rest 0 in
     let below : start + length line < length text = omega arith in
@@ -67,6 +65,4 @@ rest_at_start text (line ∷ more) e utf8 = ([], sym (ap (join_with_byte 10) e �
 
 -- one more range
 pub lines_more : (text : List ℕ) (ranges : List LineRange) (range : LineRange) (lines : List (Bor (List ℕ))) (line : Bor (List ℕ)) → map (line_of_range text) ranges ≡ map with_width (map (λ l. l.now) lines) → slice_range text range.start range.end ≡ line.now → range.width ≡ width_of line.now → map (line_of_range text) (ranges ++ range ∷ []) ≡ map with_width (map (λ l. l.now) (lines ++ line ∷ []))
-lines_more text ranges range lines line e same is =
-    let one : line_of_range text range ≡ with_width line.now = λ i. (same i, is i) in
-    rw map-append (rw map-append (rw map-append (let a = e in let b = one in cc)))
+lines_more text ranges range lines line e same is = grind (arith, same, map-append)

@@ -1,5 +1,5 @@
 -- Numbers that are encoded as characters are read back, whatever they are.
-use Rattle.std.proofs.Common.{◌≡◌, ◌∙◌, inl, inr, ap, refl, ℕ, zero, suc, ◌+◌, ◌-◌, ◌*◌, ◌/◌, ◌%◌, ◌<◌, ◌≤◌, List, [], ◌∷◌, ◌++◌, arith}
+use Rattle.std.proofs.Common.{◌≡◌, ◌∙◌, ap, refl, ℕ, zero, suc, ◌+◌, ◌-◌, ◌*◌, ◌/◌, ◌%◌, ◌<◌, ◌≤◌, List, [], ◌∷◌, ◌++◌, arith}
 use Rattle.std.specs.Char.{encode_utf8}
 use Rattle.std.specs.Str.{chars, chars_after, continuation_len, encode_utf8_all, lead_bits}
 use Rattle.std.proofs.lemmas.Bool.{cases_lt, le-ltb, lt-ltb}
@@ -27,9 +27,8 @@ unfolding encode_utf8
 of_two c rest high low =
     let a = 192 + c / 64 in
     let b = 128 + c % 64 in
-    let is : (a - 192) * 64 + (b - 128) ≡ c = omega arith in
     rw (le-ltb c 128 high, lt-ltb c 2048 low)
-    (led a (suc zero) (a - 192) (b ∷ rest) (grind arith) (grind arith) ∙ whole _ rest ∙ ap (λ x. x ∷ chars rest) is)
+    (led a (suc zero) (a - 192) (b ∷ rest) (grind arith) (grind arith) ∙ whole _ rest ∙ ap (λ x. x ∷ chars rest) (omega arith))
 
 of_three : (c : ℕ) (rest : List ℕ) → 2048 ≤ c → c < 65536 → chars (encode_utf8 c ++ rest) ≡ c ∷ chars rest
 unfolding encode_utf8
@@ -53,16 +52,7 @@ of_four c rest high =
     (led a (suc (suc (suc zero))) (a - 240) (b ∷ d ∷ e ∷ rest) (grind arith) (grind arith) ∙ whole _ rest ∙ ap (λ x. x ∷ chars rest) is)
 
 pub read-one : (c : ℕ) (rest : List ℕ) → chars (encode_utf8 c ++ rest) ≡ c ∷ chars rest
-read-one c rest = elim (cases_lt c 128) [
-  | inl low ↦ of_one c rest low
-  | inr past ↦ elim (cases_lt c 2048) [
-    | inl low ↦ of_two c rest past low
-    | inr past ↦ elim (cases_lt c 65536) [
-      | inl low ↦ of_three c rest past low
-      | inr past ↦ of_four c rest past
-    ]
-  ]
-]
+read-one c rest = grind (arith, cases_lt, of_one, of_two, of_three, of_four)
 
 -- ---- all of them
 

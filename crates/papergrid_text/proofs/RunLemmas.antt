@@ -1,5 +1,5 @@
 -- Runs of printable ASCII within a text: what stands before them and what stands after them add up.
-use Rattle.std.proofs.Common.{◌≡◌, ◌≢◌, ℕ, zero, suc, ◌+◌, Bool, true, false, not, ◌&&◌, cond, List, [], ◌∷◌, ◌++◌, ◌<◌, ◌==◌, nat_le, length, replicate, get_or, take, drop, chars, IsUtf8, encode_utf8, encode_utf8_all, refl, sym, ap, subst, ◌∙◌, arith, Option, Some, None, zero-add}
+use Rattle.std.proofs.Common.{◌≡◌, ◌≢◌, ℕ, zero, suc, ◌+◌, Bool, true, false, not, ◌&&◌, cond, List, [], ◌∷◌, ◌++◌, ◌<◌, ◌==◌, nat_le, length, replicate, get_or, take, drop, chars, IsUtf8, encode_utf8_all, refl, sym, ap, subst, ◌∙◌, arith, Option, Some, None, zero-add}
 use Rattle.std.specs.Int.{is_in_range}
 use Rattle.std.specs.List.{list_all, prefix_len}
 use Rattle.std.proofs.lemmas.Bool.{and_parts, ne_eqb}
@@ -14,8 +14,8 @@ use Rattle.unicode_width.specs.declared.state.After.TheVariants.{Emoji, LineFeed
 use Rattle.ucd_emoji.specs.Binary.{is_emoji_variation_base}
 use Rattle.unicode_width.specs.declared.state.State.{State}
 use Rattle.unicode_width.specs.declared.state.Change.{Change}
-use Rattle.unicode_width.specs.Kind.{kind, is_ligature_transparent, is_text_presentation_base}
-use Rattle.unicode_width.specs.Width.{Reading, before, plain, alone, of_kind, single, added, joined_or, if_kept, is_joined_emoji, is_kept, is_line_feed, is_plain, is_quote, skips_marks, with_joiner, joins, past_selectors, in_context, past_emoji, step, read_before, str_width}
+use Rattle.unicode_width.specs.Kind.{kind}
+use Rattle.unicode_width.specs.Width.{Reading, before, plain, alone, of_kind, single, added, joined_or, if_kept, is_joined_emoji, is_kept, is_line_feed, is_plain, past_selectors, in_context, past_emoji, step, read_before, str_width}
 use Rattle.unicode_width.proofs.WidthLemmas.{read_before-printable}
 use Rattle.unicode_width.proofs.Rules.{is_simple, str_width-append_simple, str_width-printable}
 use Rattle.unicode_width.proofs.Computing.{unicode_width}
@@ -72,18 +72,11 @@ joined_asks c t (Some j) other = given _ _ refl
 
 selectors_ask : (c t : ℕ) (after : After) → c ≢ 0xFE0F → NoEmoji (past_selectors false c t after)
 unfolding past_selectors
-selectors_ask c t after other =
-    chosen (skips_marks after && (c == 0x200D)) _ _ (given t (before (with_joiner after)) refl)
-    (chosen (skips_marks after && is_ligature_transparent c) _ _ (given t (before after) refl) (joined_asks c t (joins false after c) other))
+selectors_ask c t after other = grind (arith, chosen, given, joined_asks)
 
 context_asks : (c t : ℕ) (s : State) → c ≢ 0xFE0F → s.emoji ≡ false → NoEmoji (in_context false c t s)
 unfolding in_context
-context_asks c t s other none =
-    passed (c == 0xFE0F) _ _ (ne_eqb c 0xFE0F other)
-    (chosen (c == 0xFE01) _ _ (given t (record (if_kept s) { quote = true }) (kept s none))
-    (chosen (c == 0xFE0E) _ _ (given t (record (if_kept s) { text = true }) (kept s none))
-    (chosen (s.text && is_text_presentation_base c) _ _ (given (t + 1) plain refl)
-    (chosen (s.quote && is_quote c) _ _ (given (t + 2) plain refl) (selectors_ask c t s.after other)))))
+context_asks c t s other none = grind (arith, passed, ne_eqb, chosen, given, kept, none, selectors_ask)
 
 emoji_asks : (c t : ℕ) (s : State) → c ≢ 0xFE0F → s.emoji ≡ false → NoEmoji (past_emoji false c t s)
 unfolding past_emoji
@@ -96,8 +89,7 @@ emoji_asks c t s other none =
 by_emoji : (b : Bool) (c t : ℕ) (s : State) → s.emoji ≡ b → c ≢ 0xFE0F
     → NoEmoji (cond (not b) (past_emoji false c t s) (cond (is_emoji_variation_base c) (t + cond (is_joined_emoji s.after) 0 2, before Emoji) (past_emoji false c t (record (if_kept s) { emoji = false }))))
 by_emoji false c t s is other = emoji_asks c t s other is
-by_emoji true c t s is other =
-    chosen (is_emoji_variation_base c) _ _ (given _ (before Emoji) refl) (emoji_asks c t (record (if_kept s) { emoji = false }) other refl)
+by_emoji true c t s is other = grind (arith, chosen, given, emoji_asks)
 
 step_asks : (c : ℕ) (r : Reading) → c ≢ 0xFE0F → NoEmoji (step false c r)
 unfolding step
@@ -121,14 +113,11 @@ step_run c t s printable none = grind (arith, nat_tests)
 read_run : (run ys : List ℕ) (t : ℕ) (s : State) → list_all (is_in_range 0x20 0x7E) run ≡ true → 0 < length run
     → read_before false ys (0, plain) ≡ (t, s) → s.emoji ≡ false → read_before false (run ++ ys) (0, plain) ≡ (t + length run, plain)
 read_run [] ys t s printable some read none = absurd (omega arith)
-read_run (c ∷ []) ys t s printable some read none =
-    let parts = and_parts (is_in_range 0x20 0x7E c) true printable in
-    ap (step false c) read ∙ step_run c t s parts.0 none
+read_run (c ∷ []) ys t s printable some read none = grind (arith, and_parts, step_run, none)
 read_run (c ∷ d ∷ run) ys t s printable some read none =
     let parts = and_parts (is_in_range 0x20 0x7E c) (list_all (is_in_range 0x20 0x7E) (d ∷ run)) printable in
-    let long : t + length (d ∷ run) + 1 ≡ t + length (c ∷ d ∷ run) = omega arith in
     ap (step false c) (read_run (d ∷ run) ys t s parts.1 (omega arith) read none) ∙ step_run c (t + length (d ∷ run)) plain parts.0 refl
-    ∙ ap (λ n. (n, plain)) long
+    ∙ ap (λ n. (n, plain)) (omega arith)
 
 -- ---- what is read before a plain state adds up
 
@@ -173,20 +162,17 @@ width-run xs run ys printable some other =
 unselected : (cs bytes : List ℕ) → encode_utf8_all cs ≡ bytes → get_or bytes 0 0 ≢ 0xEF → IsUnselected cs
 unfolding unicode_width
 unselected [] bytes is other = tt
-unselected (c ∷ cs) bytes is other =
-    λ (same : c ≡ 0xFE0F). other (ap (λ bs. get_or bs 0 0) (sym is ∙ ap (λ c. encode_utf8 c ++ encode_utf8_all cs) same))
+unselected (c ∷ cs) bytes is other = grind arith
 
 pub width_parted : (text before after : List ℕ) (count : ℕ) → IsSplitAtRun text before count after → IsUtf8 before → IsUtf8 after
     → str_width false (chars text) ≡ str_width false (chars before) + count + str_width false (chars after)
 width_parted text before after count split utf8_before utf8_after =
     let is_ascii = ascii split.run split.printable in
-    let some = split.some in
-    let counted = split.counted in
     ap (λ bytes. str_width false (chars bytes)) split.whole
     ∙ ap (str_width false) (chars-append before (split.run ++ after) utf8_before
     ∙ ap (λ cs. chars before ++ cs) (chars-append split.run after (IsUtf8-from_ascii split.run is_ascii) ∙ ap (λ cs. cs ++ chars after) (chars-IsAscii split.run is_ascii)))
     ∙ width-run (chars before) split.run (chars after) split.printable (omega arith) (unselected (chars after) after (encodes-chars after utf8_after) split.unselected)
-    ∙ ap (λ n. str_width false (chars before) + n + str_width false (chars after)) counted
+    ∙ ap (λ n. str_width false (chars before) + n + str_width false (chars after)) split.counted
 
 pub split_there : (text : List ℕ) (start n : ℕ) → n ≡ prefix_len (is_in_range 0x20 0x7E) (drop start text) → 0 < n → get_or (drop (start + n) text) 0 0 ≢ 0xEF
     → IsSplitAtRun text (take start text) n (drop (start + n) text)

@@ -1,15 +1,14 @@
 -- Separators: a step of `unicode_width` at one of them tells nothing to what stands before it.
-use Rattle.std.proofs.Common.{◌≡◌, ◌∙◌, ap, sym, refl, ℕ, ◌+◌, ◌<◌, ◌≤◌, ◌&&◌, ◌||◌, Bool, true, false, not, is_some, ◌∷◌, Option, Some, None, inl, inr, arith}
+use Rattle.std.proofs.Common.{◌≡◌, ◌∙◌, ap, sym, refl, ℕ, ◌+◌, ◌<◌, ◌≤◌, ◌&&◌, ◌||◌, Bool, true, false, not, is_some, ◌∷◌, Option, Some, None, arith, rules}
 use Rattle.std.specs.Int.{is_in_range}
 use Rattle.std.specs.List.{list_all, range_with_len}
 use Rattle.std.proofs.lemmas.Bool.{and_parts, not-true, or_cases}
 use Rattle.std.proofs.lemmas.Bool.Decides.{nat_tests}
 use Rattle.unicode_width.specs.Kind.{is_ligature_transparent, is_text_presentation_base, kind}
-use Rattle.unicode_width.specs.declared.kind.Kind.{Kind}
 use Rattle.unicode_width.specs.declared.state.After.{After}
 use Rattle.unicode_width.specs.declared.state.After.TheVariants.{Nothing, LineFeed, EmojiModifier, RegionalIndicator, RegionalIndicators, Emoji, ZwjEmoji, KeycapZwjEmoji, IndicatorZwj, EvenIndicatorsZwj, OddIndicatorsZwj, TagEnd, TagDigit1, TagDigit2, TagDigit3, TagLetter1, TagLetter2, TagLetter3, TagLetter4, TagLetter5, TagLetter6, KiratE, KiratAi, Alef, Solidus, SolidusAlef, Lamed, ZwjLamed, Ya, ZwjYa, VowelZwjYa, Tifinagh, ZwjTifinagh, JoinerTifinagh, LisuTone, OrkhonI, ZwjOrkhonI, KhmerLetter}
 use Rattle.unicode_width.specs.declared.state.State.{State}
-use Rattle.unicode_width.specs.Width.{Reading, alone, before_alef, before_joiner, if_kept, in_context, is_emoji, is_emoji_variation_base, is_lam, joins, past_emoji, past_selectors, plain, read_before, step, str_width}
+use Rattle.unicode_width.specs.Width.{Reading, alone, before_alef, before_joiner, in_context, is_emoji_variation_base, is_lam, joins, past_emoji, past_selectors, plain, read_before, step, str_width}
 use Rattle.unicode_width.proofs.Computing.{unicode_width}
 use Rattle.papergrid_text.proofs.RangeLemmas.{Ones, has_kind, line_kind, own_alone}
 use Rattle.papergrid_text.specs.Separators.{IsSeparator, begins_keycap, is_separator}
@@ -33,8 +32,7 @@ ascii_step c total s low base = grind (arith, nat_tests)
 ascii_separates : (c total : ℕ) (s : State) → is_in_range 0x20 0x7E c ≡ true → begins_keycap c ≡ false → step false c (total, s) ≡ (total + 1, plain)
 ascii_separates c total s low keyless =
     let known : is_keycap_or_plain c ≡ true = of_range is_keycap_or_plain 0x20 0x5F c ascii_plain (grind (arith, nat_tests)) (grind (arith, nat_tests)) in
-    let other : not (is_emoji_variation_base c) ≡ true =
-    sym (ap (λ b. b || not (is_emoji_variation_base c)) keyless) ∙ known in
+    let other = sym (ap (λ b. b || not (is_emoji_variation_base c)) keyless) ∙ known in
     ascii_step c total s low (not-true (is_emoji_variation_base c) other)
 
 -- ---- the lines of boxes
@@ -135,14 +133,8 @@ none_from : {A : Type 0} (found : Option A) → not (is_some found) ≡ true →
 none_from None none = refl
 none_from (Some a) none = cc
 
--- what takes one column is no emoji
-one_no_emoji : (k : Kind) → has_kind Ones k ≡ true → is_emoji k ≡ false
-one_no_emoji k one = grind arith
-
 line_before_joiner : (c : ℕ) → IsLine c → before_joiner c ≡ None
-line_before_joiner c line =
-    let from = line.from in let to = line.to in let no_emoji = one_no_emoji (kind c) line.kind_one in
-    grind (arith, nat_tests)
+line_before_joiner c line = grind (arith, nat_tests)
 
 line_before_alef : (c : ℕ) → IsLine c → before_alef false c ≡ None
 unfolding before_alef
@@ -168,24 +160,12 @@ line_past_emoji c total s line past = let own = line.own in let from = line.from
 
 line_separates : (c total : ℕ) (s : State) → is_in_range 0x2500 0x257F c ≡ true → step false c (total, s) ≡ (total + 1, plain)
 unfolding step
-line_separates c total s inside =
-    let line = is_line c inside in
-    let base = line.base in
-    let alone : (s : State) → past_emoji false c total s ≡ (total + 1, plain) = λ (s : State).
-    line_past_emoji c total s line (line_in_context c total s line (line_past_selectors c total s.after line (line_joins_none c s.after inside line))) in
-    let here = alone s in
-    let kept = alone (record (if_kept s) { emoji = false }) in
-    grind arith
+line_separates c total s inside = grind (arith, is_line, line_past_emoji, line_in_context, line_past_selectors, line_joins_none)
 
 -- ---- both
 
 separator_step : (c total : ℕ) (s : State) → is_separator c ≡ true → step false c (total, s) ≡ (total + 1, plain)
-separator_step c total s is = elim (or_cases (is_in_range 0x20 0x7E c && not (begins_keycap c)) (is_in_range 0x2500 0x257F c) is) [
-  | inl low ↦
-      let parts = and_parts (is_in_range 0x20 0x7E c) (not (begins_keycap c)) low in
-      ascii_separates c total s parts.0 (not-true (begins_keycap c) parts.1)
-  | inr line ↦ line_separates c total s line
-]
+separator_step c total s is = search (rules, or_cases, and_parts, ascii_separates, not-true, line_separates)
 
 pub separates : (c : ℕ) → is_separator c ≡ true → IsSeparator c
 unfolding str_width

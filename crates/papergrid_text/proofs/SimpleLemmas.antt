@@ -152,12 +152,11 @@ reads_by text cs width is reads = subst (λ cs. Reads (get_or cs 0 0) width (rea
 
 starts_by : (text rest : List ℕ) (c columns count : ℕ) → text ≡ encode_utf8 c ++ rest → IsUtf8 text → length (encode_utf8 c) ≡ count → columns ≤ count → ((n : ℕ) → ReadsQuietly rest n → ReadsQuietly text (columns + n)) → IsPiece text columns count
 starts_by text rest c columns count spelled utf8 counted bound reads =
-    let cut = past c rest text count spelled counted in
     record {
       boundary = subst (IsCharBoundary text) counted (IsCharBoundary-at_seam text (encode_utf8 c) rest spelled (IsUtf8-past_char text rest c utf8 spelled));
       some = omega (arith, length-encode c, (len_utf8_bounds c).0);
       bound = bound;
-      reads = λ n quietly. reads n (subst (λ bs. ReadsQuietly bs n) cut quietly);
+      reads = λ n quietly. reads n (subst (λ bs. ReadsQuietly bs n) (past c rest text count spelled counted) quietly);
     }
 
 starts : (text rest : List ℕ) (c columns count : ℕ) → text ≡ encode_utf8 c ++ rest → IsUtf8 text → length (encode_utf8 c) ≡ count → columns ≤ count → TakesColumns c columns → IsPiece text columns count
@@ -235,11 +234,7 @@ starts_greek text c utf8 h is high =
 
 -- the character, by the lead and what the byte after it adds
 pub code_of_two : (text : List ℕ) (c second : ℕ) (rest : List ℕ) → IsOfTwo text → second ≡ get_or text 1 0 - 128 → text ≡ encode_utf8 c ++ rest → (get_or text 0 0 - 192) * 64 + second ≡ c
-code_of_two text c second rest two is spelled =
-    let same = encode_same two.first c two.rest rest (sym two.spelled ∙ spelled) in
-    let lead = two.bytes.lead in
-    let there = two.bytes.second in
-    omega (arith, same.0)
+code_of_two text c second rest two is spelled = grind (arith, encode_same, rest, spelled)
 
 -- ---- characters of three bytes
 
@@ -264,12 +259,7 @@ pub is_three_lead : (b : ℕ) → 0xE1 ≤ b → b ≤ 0xEF → is_in_range 0xE0
 is_three_lead b low high = grind (arith, nat_tests)
 
 pub code_of_three : (text : List ℕ) (c second third : ℕ) (rest : List ℕ) → IsOfThree text → second ≡ get_or text 1 0 - 128 → third ≡ get_or text 2 0 - 128 → text ≡ encode_utf8 c ++ rest → (get_or text 0 0 - 224) * 4096 + second * 64 + third ≡ c
-code_of_three text c second third rest three is_second is_third spelled =
-    let same = encode_same three.first c three.rest rest (sym three.spelled ∙ spelled) in
-    let lead = three.bytes.lead in
-    let there = three.bytes.second in
-    let last = three.bytes.third in
-    omega (arith, same.0)
+code_of_three text c second third rest three is_second is_third spelled = grind (arith, encode_same, rest, spelled)
 
 -- ---- a text of simple characters
 
@@ -308,9 +298,7 @@ reads_run text n m is =
     reads_past text n m (omega arith) (subst (λ k. list_all (is_in_range 0x20 0x7E) (take k text) ≡ true) (sym is) (front_printable text))
 
 pub cut_run : (text : List ℕ) (n : ℕ) → IsUtf8 text → n ≡ prefix_len (is_in_range 0x20 0x7E) text → IsCharBoundary text n
-cut_run text n utf8 is =
-    let bound = prefix_len-le-length (is_in_range 0x20 0x7E) text in
-    cut_past text n utf8 (omega arith) (subst (λ k. list_all (is_in_range 0x20 0x7E) (take k text) ≡ true) (sym is) (front_printable text))
+cut_run text n utf8 is = grind (arith, prefix_len-le-length, cut_past, front_printable)
 
 pub piece : (text after : List ℕ) (columns count run : ℕ) → IsPiece text columns count → IsUtf8 text → after ≡ drop count text → run ≡ prefix_len (is_in_range 0x20 0x7E) after → IsPiece text (columns + run) (count + run)
 piece text after columns count run first utf8 is counted =
@@ -369,10 +357,7 @@ lam_alone text after utf8 lam is apart = starts_by text lam.0 0x644 1 2 lam.1 ut
 first_is_low : (text : List ℕ) → IsUtf8 text → get_or text 0 0 < 0x80 → get_or (chars text) 0 0 < 0x80
 unfolding chars
 first_is_low [] utf8 low = omega arith
-first_is_low (b ∷ bs) utf8 low =
-    let one = is_of_one (b ∷ bs) utf8 (omega arith) low in
-    let first : get_or (chars (b ∷ bs)) 0 0 ≡ one.first = ap (λ cs. get_or cs 0 0) (chars_past_char (b ∷ bs) one.rest one.first utf8 one.spelled) in
-    omega (arith, first, one.bytes.small)
+first_is_low (b ∷ bs) utf8 low = grind arith
 
 pub lam_at_end : (text after : List ℕ) → IsUtf8 text → BeginsWith text 0x644 → after ≡ drop 2 text → IsUtf8 after → get_or after 0 0 < 0x80 → IsPiece text 1 2
 lam_at_end text after utf8 lam is utf8_after low = lam_alone text after utf8 lam is (apart_from _ (first_is_low after utf8_after low))
@@ -415,6 +400,5 @@ lam_and_alef text after next utf8 lam is utf8_after h same alef =
 pub front_is_printable : (text bytes : List ℕ) (from k n : ℕ) → n ≡ prefix_len (is_in_range 0x20 0x7E) (take k bytes) → k ≡ from → bytes ≡ text → from ≤ n → from ≤ length text → list_all (is_in_range 0x20 0x7E) (take from text) ≡ true
 front_is_printable text bytes from k n is same whole all within =
     let counted : n ≡ prefix_len (is_in_range 0x20 0x7E) (take from text) = is ∙ ap (λ k. prefix_len (is_in_range 0x20 0x7E) (take k bytes)) same ∙ ap (λ bs. prefix_len (is_in_range 0x20 0x7E) (take from bs)) whole in
-    let bound = prefix_len-le-length (is_in_range 0x20 0x7E) (take from text) in
     let long = length-take-le from text within in
-    whole_printable (take from text) n counted (omega arith)
+    whole_printable (take from text) n counted (omega (arith, prefix_len-le-length (is_in_range 0x20 0x7E) (take from text)))

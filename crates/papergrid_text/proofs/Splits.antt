@@ -1,5 +1,5 @@
 -- The lines of a text.
-use Rattle.std.proofs.Common.{◌≡◌, ◌≢◌, ℕ, ◌<◌, List, [], ◌∷◌, length, refl, ap, sym, ◌∙◌, arith, true, false, Bool, cond}
+use Rattle.std.proofs.Common.{◌≡◌, ◌≢◌, ℕ, ◌<◌, List, [], ◌∷◌, length, refl, ap, sym, ◌∙◌, arith, true, false, Bool, cond, rules}
 use Rattle.std.specs.Prelude.{◌==◌}
 use Rattle.std.specs.List.{join_with_byte, position_or_len, before_first, after_first, onto_first, All}
 use Rattle.std.proofs.lemmas.List.Elements.{All-nil, All-cons, All-head, All-tail}
@@ -41,11 +41,7 @@ split_of_join (x ∷ y ∷ more) some h =
     ∙ ap (λ parts. x ∷ parts) (split_of_join (y ∷ more) (omega arith) (All-tail HasNoNewline x (y ∷ more) h))
 
 pub is_split : (text : List ℕ) → IsLines text (split_lines text)
-is_split text = record {
-  some = let n = length-slice_split (λ b. b == 10) text in omega arith;
-  plain = plain_lines text;
-  joined = join_with_byte-slice_split 10 text;
-}
+is_split text = search (rules, length-slice_split, plain_lines, join_with_byte-slice_split)
 
 pub only_split : (text : List ℕ) (parts : List (List ℕ)) → IsLines text parts → parts ≡ split_lines text
 only_split text parts is = sym (split_of_join parts is.some is.plain) ∙ ap split_lines is.joined

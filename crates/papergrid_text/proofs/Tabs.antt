@@ -1,6 +1,6 @@
 -- Tabs and the spaces in their place.
-use Rattle.std.proofs.Common.{◌≡◌, ℕ, ◌+◌, List, [], ◌∷◌, ◌++◌, refl, ap, sym, ◌∙◌, arith, zero, suc, true, false, Bool, replicate, count_by, append_assoc, cond, lit<, map}
-use Rattle.std.specs.Prelude.{◌==◌, chars}
+use Rattle.std.proofs.Common.{◌≡◌, ℕ, ◌+◌, List, [], ◌∷◌, ◌++◌, refl, ap, arith, zero, suc, true, false, Bool, replicate, count_by, append_assoc, cond, lit<, map}
+use Rattle.std.specs.Prelude.{◌==◌}
 use Rattle.std.specs.Char.{encode_utf8}
 use Rattle.std.specs.List.{flat_map, zip}
 use Rattle.std.specs.Str.{encode_utf8_all, IsUtf8}
@@ -52,19 +52,13 @@ counts_apart p xs ys = sum_by-append (λ x. cond (p x) 1 0) xs ys
 
 no_tab_first : (c : ℕ) (v : Bool) → (c == 9) ≡ v → count_by (λ b. b == 9) (encode_utf8 c) ≡ 0 → v ≡ false
 no_tab_first c false e h = refl
-no_tab_first c true e h =
-    let is : c ≡ 9 = eqb-true c 9 e in
-    let one : count_by (λ b. b == 9) (encode_utf8 c) ≡ 1 = rw (is, encode_ascii 9 (lit< tt)) refl in absurd (omega arith)
+no_tab_first c true e h = grind (arith, eqb-true, encode_ascii)
 
 no_tabs : (n left : ℕ) (cs : List ℕ) → count_by (λ b. b == 9) (encode_utf8_all cs) ≡ 0 → replaced n left cs ≡ cs
 no_tabs n left [] h = refl
 no_tabs n left (c ∷ cs) h =
     let parts = counts_apart (λ b. b == 9) (encode_utf8 c) (encode_utf8_all cs) in
-    let plain = no_tab_first c (c == 9) refl (omega arith) in
-    let others = no_tabs n c cs (omega arith) in
-    rw (plain, others) refl
+    rw ((no_tab_first c (c == 9) refl (omega arith)), (no_tabs n c cs (omega arith))) refl
 
 pub same_without_tabs : (n : ℕ) (text : List ℕ) → IsUtf8 text → count_by (λ b. b == 9) text ≡ 0 → text ≡ tabs_replaced n text
-same_without_tabs n text utf8 h =
-    let e = encodes-chars text utf8 in
-    sym (ap encode_utf8_all (no_tabs n 0 (chars text) (rw e h)) ∙ e)
+same_without_tabs n text utf8 h = grind (arith, encodes-chars, no_tabs)

@@ -1,16 +1,16 @@
 -- Without the white space at its ends no text is wider.
-use Rattle.std.proofs.Common.{◌≡◌, ◌⊎◌, inl, inr, ◌∙◌, ap, sym, refl, subst, ℕ, zero, suc, ◌+◌, ◌<◌, ◌≤◌, ◌==◌, ◌&&◌, ◌||◌, Bool, true, false, cond, not, nat_lt, List, [], ◌∷◌, ◌++◌, Some, None, length, replicate, arith, append_assoc, append-nil}
+use Rattle.std.proofs.Common.{◌≡◌, ◌⊎◌, inl, inr, ◌∙◌, ap, sym, refl, subst, ℕ, zero, suc, ◌+◌, ◌<◌, ◌≤◌, ◌==◌, ◌&&◌, ◌||◌, Bool, true, false, cond, not, nat_lt, List, [], ◌∷◌, ◌++◌, Some, None, length, replicate, arith, append_assoc, append-nil, rules}
 use Rattle.std.specs.Char.{is_whitespace}
 use Rattle.std.specs.List.{list_all, range_with_len}
 use Rattle.std.specs.Str.{chars, drop_trailing_whitespace, skip_leading_whitespace, trim, trim_end, trim_start}
-use Rattle.std.proofs.lemmas.Bool.{and_parts, cases_eq, cases_lt, eqb-true, ltb-true, not-true, or_cases}
+use Rattle.std.proofs.lemmas.Bool.{and_parts, cases_eq, cases_lt, eqb-true, ltb-true, or_cases}
 use Rattle.std.proofs.lemmas.Bool.Decides.{nat_tests}
 use Rattle.std.proofs.lemmas.List.{length-replicate, nil_from_length}
 use Rattle.unicode_width.specs.declared.state.After.{After}
 use Rattle.unicode_width.specs.declared.state.After.TheVariants.{Nothing, LineFeed, EmojiModifier, RegionalIndicator, RegionalIndicators, Emoji, ZwjEmoji, KeycapZwjEmoji, IndicatorZwj, EvenIndicatorsZwj, OddIndicatorsZwj, TagEnd, TagDigit1, TagDigit2, TagDigit3, TagLetter1, TagLetter2, TagLetter3, TagLetter4, TagLetter5, TagLetter6, KiratE, KiratAi, Alef, Solidus, SolidusAlef, Lamed, ZwjLamed, Ya, ZwjYa, VowelZwjYa, Tifinagh, ZwjTifinagh, JoinerTifinagh, LisuTone, OrkhonI, ZwjOrkhonI, KhmerLetter}
 use Rattle.unicode_width.specs.declared.state.Change.TheVariants.{Same}
 use Rattle.unicode_width.specs.declared.state.State.{State}
-use Rattle.unicode_width.specs.Width.{Reading, added, alone, before, before_alef, if_kept, in_context, is_indicator, is_plain, is_tifinagh, joined_or, joins, past_emoji, past_selectors, plain, read_before, step, str_width}
+use Rattle.unicode_width.specs.Width.{Reading, added, alone, before, before_alef, in_context, is_indicator, is_plain, is_tifinagh, joined_or, joins, past_emoji, past_selectors, plain, read_before, step, str_width}
 use Rattle.unicode_width.proofs.Computing.{unicode_width}
 use Rattle.unicode_width.proofs.Rules.{str_width-append_simple, str_width-printable}
 use Rattle.unicode_width.proofs.WidthLemmas.{read_before-printable}
@@ -55,9 +55,7 @@ abbrev takes_none : ℕ → Bool
 takes_none c = not (c == 0x17D2) && (not (is_tifinagh c) && not (is_indicator c))
 
 white-takes_none : (c : ℕ) → is_whitespace c ≡ true → takes_none c ≡ true
-white-takes_none c white =
-    of_white (λ k. takes_none k ≡ true) c (λ within. of_range takes_none 9 5 c refl (omega (arith, within.0)) (omega (arith, within.1)))
-    refl refl refl refl (λ within. of_range takes_none 8192 11 c refl (omega (arith, within.0)) (omega (arith, within.1))) refl refl refl refl refl white
+white-takes_none c white = search (rules, of_white, of_range, white)
 
 -- what joins the text after it takes nothing away, where it is no such character
 record IsSafe (c : ℕ) : Type 0 where
@@ -66,14 +64,7 @@ record IsSafe (c : ℕ) : Type 0 where
   indicator : is_indicator c ≡ false
 
 is-safe : (c : ℕ) → takes_none c ≡ true → IsSafe c
-is-safe c none =
-    let first = and_parts (not (c == 0x17D2)) (not (is_tifinagh c) && not (is_indicator c)) none in
-    let others = and_parts (not (is_tifinagh c)) (not (is_indicator c)) first.1 in
-    record {
-      coeng = not-true (c == 0x17D2) first.0;
-      tifinagh = not-true (is_tifinagh c) others.0;
-      indicator = not-true (is_indicator c) others.1;
-    }
+is-safe c none = grind arith
 
 alef-rises : (lam mark : Bool) (total : ℕ) (own : ℕ × State) →
     total ≤ (joined_or total (cond lam (Some (Same, Nothing)) (cond mark (Some (Same, Alef)) None)) own).0
@@ -125,10 +116,7 @@ joined-rises c total KhmerLetter own coeng _ _ = grind arith
 
 selectors-rise : (c total : ℕ) (after : After) → takes_none c ≡ true → total ≤ (past_selectors false c total after).0
 unfolding past_selectors
-selectors-rise c total after none =
-    let safe = is-safe c none in
-    let joined = joined-rises c total after (alone false c) safe.coeng safe.tifinagh safe.indicator in
-    grind arith
+selectors-rise c total after none = grind (arith, is-safe, joined-rises)
 
 context-rises : (c total : ℕ) (s : State) → takes_none c ≡ true → total ≤ (in_context false c total s).0
 unfolding in_context
@@ -141,10 +129,7 @@ emoji-rises c total s none = let past = context-rises c total s none in grind ar
 -- such a character takes no column of the text after it
 step-rises : (c : ℕ) (r : Reading) → takes_none c ≡ true → r.0 ≤ (step false c r).0
 unfolding step
-step-rises c (total, s) none =
-    let past = emoji-rises c total s none in
-    let kept = emoji-rises c total (record (if_kept s) { emoji = false }) none in
-    grind arith
+step-rises c (total, s) none = grind (arith, emoji-rises)
 
 skipped-no_wider : (cs : List ℕ) → str_width false (skip_leading_whitespace cs) ≤ str_width false cs
 unfolding str_width
@@ -153,9 +138,8 @@ skipped-no_wider (c ∷ cs) =
     elim (is_whitespace c) as (λ b. is_whitespace c ≡ b →
     (read_before false (cond b (skip_leading_whitespace cs) (c ∷ cs)) (0, plain)).0 ≤ (read_before false (c ∷ cs) (0, plain)).0) [
       | true ↦ λ white.
-          let rises = step-rises c (read_before false cs (0, plain)) (white-takes_none c white) in
           let rest : (read_before false (skip_leading_whitespace cs) (0, plain)).0 ≤ (read_before false cs (0, plain)).0 = skipped-no_wider cs in
-          omega arith
+          omega (arith, step-rises c (read_before false cs (0, plain)) (white-takes_none c white))
       | false ↦ λ black. omega arith
     ] refl
 
@@ -167,9 +151,8 @@ unfolding str_width
 read-shifted cs n =
     let ys : List ℕ = replicate n 32 in
     let many : length ys ≡ n = length-replicate n 32 in
-    let from : 0 + length ys ≡ n = omega arith in
     let read : (n, plain) ≡ read_before false ys (0, plain) =
-    ap (λ m. (m, plain)) (sym from) ∙ read_before-printable false ys [] 0 (all_spaces n) refl
+    ap (λ m. (m, plain)) (sym (omega arith)) ∙ read_before-printable false ys [] 0 (all_spaces n) refl
     ∙ ap (λ l. read_before false l (0, plain)) (append-nil ys) in
     ap (λ r. (read_before false cs r).0) read ∙ ap (λ r. r.0) (sym (read_append cs ys (0, plain)))
     ∙ str_width-append_simple false cs ys (all_simple n)
@@ -220,23 +203,7 @@ other-before_line c total no_return no_emoji no_quote no_text = grind (arith, na
 
 before-line : (c total : ℕ) → (c ≡ 13) ⊎ (step false c (total, before LineFeed) ≡ step false c (total, plain))
 unfolding step past_emoji in_context
-before-line c total =
-    elim (cases_eq c 13) [
-      | inl is ↦ inl is
-      | inr no_return ↦ elim (cases_eq c 0xFE0F) [
-        | inl is ↦ inr (subst (λ k. step false k (total, before LineFeed) ≡ step false k (total, plain)) (sym is)
-            (selector-own 0xFE0F _ emoji-selector total))
-        | inr no_emoji ↦ elim (cases_eq c 0xFE01) [
-          | inl is ↦ inr (subst (λ k. step false k (total, before LineFeed) ≡ step false k (total, plain)) (sym is)
-              (selector-own 0xFE01 _ quote-selector total))
-          | inr no_quote ↦ elim (cases_eq c 0xFE0E) [
-            | inl is ↦ inr (subst (λ k. step false k (total, before LineFeed) ≡ step false k (total, plain)) (sym is)
-                (selector-own 0xFE0E _ text-selector total))
-            | inr no_text ↦ inr (other-before_line c total no_return no_emoji no_quote no_text)
-          ]
-        ]
-      ]
-    ]
+before-line c total = grind (arith, cases_eq, selector-own, emoji-selector, quote-selector, text-selector, other-before_line)
 
 abbrev IsAsPlain : List ℕ → Type 0
 IsAsPlain cs = (read_before false cs (1, before LineFeed) ≡ read_before false cs (1, plain))
@@ -247,17 +214,11 @@ unfolding step past_emoji
 return-line = refl
 
 one-before_line : (c : ℕ) → IsAsPlain (c ∷ [])
-one-before_line c = elim (before-line c 1) [
-  | inl is ↦ inr (subst (λ k. step false k (1, before LineFeed) ≡ step false k (0, plain)) (sym is) return-line)
-  | inr same ↦ inl same
-]
+one-before_line c = grind (arith, before-line, return-line)
 
 all-before_line : (c : ℕ) (cs : List ℕ) → IsAsPlain (c ∷ cs)
 all-before_line c [] = one-before_line c
-all-before_line c (d ∷ cs) = elim (all-before_line d cs) [
-  | inl same ↦ inl (ap (step false c) same)
-  | inr same ↦ inr (ap (step false c) same)
-]
+all-before_line c (d ∷ cs) = grind (arith, all-before_line d cs)
 
 line_feed : step false 10 (0, plain) ≡ (1, before LineFeed)
 unfolding step past_emoji
@@ -277,24 +238,17 @@ unfolding str_width
 more-no_narrower cs w white =
     let all = ap (λ (r : Reading). r.0) (read_append cs (w ∷ []) (0, plain)) in
     elim (white-plain w white) [
-      | inl line ↦
-          (let at = ap (λ k. (read_before false cs (step false k (0, plain))).0) line in
-          let fed = ap (λ r. (read_before false cs r).0) line_feed in
-          omega (arith, all, at, fed, before-line_feed cs))
-      | inr stays ↦
-          (let n = (step false w (0, plain)).0 in
-          let own = ap (λ s. (read_before false cs (n, s)).0) (plain-from_test (step false w (0, plain)).1 stays) in
-          omega (arith, all, own, read-shifted cs n))
+      | inl line ↦ grind (arith, line_feed, all, before-line_feed)
+      | inr stays ↦ grind (arith, plain-from_test, all, read-shifted)
     ]
 
 longer-no_narrower : (cs ws : List ℕ) → list_all is_whitespace ws ≡ true → str_width false cs ≤ str_width false (cs ++ ws)
 longer-no_narrower cs [] white = let e = ap (str_width false) (append-nil cs) in omega arith
 longer-no_narrower cs (w ∷ ws) white =
     let parts = and_parts (is_whitespace w) (list_all is_whitespace ws) white in
-    let one = more-no_narrower cs w parts.0 in
     let rest = longer-no_narrower (cs ++ w ∷ []) ws parts.1 in
     let e = ap (str_width false) (append_assoc cs (w ∷ []) ws) in
-    omega arith
+    omega (arith, more-no_narrower cs w parts.0)
 
 -- what is dropped from the end is white
 record IsCut (cs kept : List ℕ) : Type 0 where
@@ -330,13 +284,7 @@ dropped-no_wider cs =
 
 trimmed-chars : (text : List ℕ) → chars (trim text) ≡ drop_trailing_whitespace (skip_leading_whitespace (chars text))
 unfolding trim_start trim_end
-trimmed-chars text =
-    chars-back (drop_trailing_whitespace (chars (trim_start text)))
-    ∙ ap drop_trailing_whitespace (chars-back (skip_leading_whitespace (chars text)))
+trimmed-chars text = grind (arith, chars-back)
 
 pub trimmed-no_wider : (text : List ℕ) → width_of (trim text) ≤ width_of text
-trimmed-no_wider text =
-    let e = ap (str_width false) (trimmed-chars text) in
-    let after = dropped-no_wider (skip_leading_whitespace (chars text)) in
-    let front = skipped-no_wider (chars text) in
-    omega arith
+trimmed-no_wider text = grind (arith, trimmed-chars, dropped-no_wider, skipped-no_wider)

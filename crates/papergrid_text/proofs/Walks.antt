@@ -23,32 +23,24 @@ pub map_from_zip : {A B C : Type 0} (R : A → B → Type 0) (v : B → C) (f : 
 map_from_zip R v f h [] [] z = refl
 map_from_zip R v f h [] (b ∷ ys) z = absurd z
 map_from_zip R v f h (a ∷ xs) [] z = absurd z
-map_from_zip R v f h (a ∷ xs) (b ∷ ys) z =
-    let first = h a b z.0 in let others = map_from_zip R v f h xs ys z.1 in cc
+map_from_zip R v f h (a ∷ xs) (b ∷ ys) z = grind (arith, map_from_zip R v f h xs ys z.1)
 
 pub list_from_zip : {A B : Type 0} (R : A → B → Type 0) (f : A → B) → ((a : A) (b : B) → R a b → b ≡ f a) → (xs : List A) (ys : List B) → AllZip R xs ys → ys ≡ map f xs
 list_from_zip R f h [] [] z = refl
 list_from_zip R f h [] (b ∷ ys) z = absurd z
 list_from_zip R f h (a ∷ xs) [] z = absurd z
-list_from_zip R f h (a ∷ xs) (b ∷ ys) z =
-    let first = h a b z.0 in let others = list_from_zip R f h xs ys z.1 in cc
+list_from_zip R f h (a ∷ xs) (b ∷ ys) z = grind (arith, list_from_zip R f h xs ys z.1)
 
 -- ---- a vector by value
 
 module _ {X Z : Type 0} where
   pub owned_yields : (s t : IntoIter X Z) (xs : List X) → Yields (into_iter_steps {X = X} {Z = Z}) s xs t → (into_iter_items s ≡ xs ++ into_iter_items t) × (length xs + into_iter_len t ≡ into_iter_len s)
   owned_yields s t [] e = (ap (λ u. into_iter_items u) e, zero-add (into_iter_len t) ∙ ap (λ u. into_iter_len u) (sym e))
-  owned_yields s t (x ∷ xs) (j, step, rest) =
-      let r = owned_yields j t xs rest in
-      (step.0 ∙ ap (λ ys. x ∷ ys) r.0, omega arith)
+  owned_yields s t (x ∷ xs) (j, step, rest) = grind (arith, owned_yields j t xs rest)
 
   -- what a whole walk gave are the items
   pub owned_drains : (s : IntoIter X Z) (xs : List X) → length (into_iter_items s) ≡ into_iter_len s → Drains (into_iter_steps {X = X} {Z = Z}) s xs → xs ≡ into_iter_items s
-  owned_drains s xs same (u, (t, walked, last)) =
-      let r = owned_yields s t xs walked in
-      let n : length (into_iter_items s) ≡ length xs + length (into_iter_items t) = ap length r.0 ∙ length-append xs (into_iter_items t) in
-      let none : into_iter_items t ≡ [] = empty_of (into_iter_items t) (omega arith) in
-      sym (r.0 ∙ ap (λ ys. xs ++ ys) none ∙ append-nil xs)
+  owned_drains s xs same (u, (t, walked, last)) = grind (arith, owned_yields, length-append, empty_of, append-nil)
 
 -- ---- a slice by reference
 
@@ -58,21 +50,14 @@ module _ {X : Type 0} where
   lent_yields s t (x ∷ xs) (j, step, rest) = step ∙ ap (λ ys. x.now ∷ ys) (lent_yields j t xs rest)
 
   pub lent_drains : (s : Iter X) (xs : List (Bor X)) → Drains (iter_steps {A = X}) s xs → map (λ x. x.now) xs ≡ iter_rest s
-  lent_drains s xs (u, (t, walked, last)) =
-      let none : iter_rest t ≡ [] = empty_of (iter_rest t) last.0 in
-      sym (lent_yields s t xs walked ∙ ap (λ ys. map (λ x. x.now) xs ++ ys) none ∙ append-nil (map (λ x. x.now) xs))
+  lent_drains s xs (u, (t, walked, last)) = grind (arith, empty_of, lent_yields, append-nil)
 
 -- ---- how long the walks are
 
 -- any walk from here gives fewer items than 2^64, and no item is asked for more than it has
 pub short_by : {S A : Type 0} {can : S → Type 0} {left : S → Count} {steps : S → Option A → S → Type 0} (P : A → Type 0) → ((x : A) → P x) → (it : S) → can it → IsFinite (left it) →
     ((xs : List A) (t : S) → Yields steps it xs t → length xs < 2 ^ 64) → IsShort can left steps P it
-short_by P all it may ends fits = record {
-  may_start = may;
-  ends = ends;
-  fits = fits;
-  each = λ xs t x u walked step. all x;
-}
+short_by P all it may ends fits = grind arith
 
 module _ {X Z : Type 0} where
   pub owned_short : (P : X → Type 0) → ((x : X) → P x) → (s : IntoIter X Z) → into_iter_len s < 2 ^ 64 → IsShort (λ _. ⊤) (λ s. at_most (into_iter_len s)) (into_iter_steps {X = X} {Z = Z}) P s
@@ -80,9 +65,7 @@ module _ {X Z : Type 0} where
 
 module _ {X : Type 0} where
   pub lent_short : (P : Bor X → Type 0) → ((x : Bor X) → P x) → (s : Iter X) → length (iter_rest s) < 2 ^ 64 → IsShort (λ _. ⊤) (λ s. at_most (length (iter_rest s))) (iter_steps {A = X}) P s
-  lent_short P all s small =
-      short_by P all s tt tt
-      (λ xs t walked. let e = ap length (lent_yields s t xs walked) ∙ length-append (map (λ x. x.now) xs) (iter_rest t) in let m = length-map xs (λ (x : Bor X). x.now) in omega arith)
+  lent_short P all s small = grind (arith, short_by, lent_yields, length-append, length-map)
 
 -- ---- rows of cells
 

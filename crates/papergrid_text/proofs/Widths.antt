@@ -1,5 +1,5 @@
 -- The widths of lines.
-use Rattle.std.proofs.Common.{◌≡◌, ℕ, ◌-◌, ◌<◌, List, [], ◌∷◌, ◌++◌, length, map, refl, ap, sym, ◌∙◌, arith, suc, max, get_or, subst, Bor, false}
+use Rattle.std.proofs.Common.{◌≡◌, ℕ, ◌-◌, ◌<◌, List, [], ◌∷◌, ◌++◌, length, map, refl, ap, sym, ◌∙◌, arith, max, get_or, subst, Bor, false}
 use Rattle.std.specs.Prelude.{◌==◌}
 use Rattle.std.specs.List.{join_with_byte}
 use Rattle.std.specs.Str.Lines.{lines_of_parts, strip_carriage_return}
@@ -40,9 +40,8 @@ none_kept (line ∷ next ∷ more) small = absurd (omega arith)
 pub all_answered : (text : List ℕ) (lines : List (List ℕ)) → lines ≡ split_lines text → answered_lines text (greatest_width lines) (cached_by_new lines) ≡ map with_width lines
 all_answered text [] e = let s = (is_split text).some in let n = ap length e in absurd (omega arith)
 all_answered text (line ∷ []) e =
-    let same : line ≡ text = ap (join_with_byte 10) e ∙ (is_split text).joined in
     let w : max (width_of line) 0 ≡ width_of line = omega arith in
-    λ i. (sym same i, w i) ∷ []
+    λ i. (sym (ap (join_with_byte 10) e ∙ (is_split text).joined) i, w i) ∷ []
 all_answered text (line ∷ next ∷ more) e = refl
 
 -- ---- where there is no CR LF, std's lines are as wide as the lines of the text
@@ -61,9 +60,7 @@ no_crlf_tail (x ∷ xs) ys h = no_crlf_tail xs ys (λ front back e. h (x ∷ fro
 no_cr_end : (xs rest : List ℕ) → HasNoCrLf (xs ++ (10 ∷ rest)) → (get_or xs (length xs - 1) 0 == 13) ≡ false
 no_cr_end [] rest h = refl
 no_cr_end (x ∷ []) rest h = ne_eqb x 13 (λ e. h [] rest (ap (λ y. y ∷ 10 ∷ rest) e))
-no_cr_end (x ∷ y ∷ xs) rest h =
-    let k : length (x ∷ y ∷ xs) - 1 ≡ suc (length (y ∷ xs) - 1) = omega arith in
-    ap (λ n. get_or (x ∷ y ∷ xs) n 0 == 13) k ∙ no_cr_end (y ∷ xs) rest (no_crlf_tail (x ∷ []) (y ∷ xs ++ (10 ∷ rest)) h)
+no_cr_end (x ∷ y ∷ xs) rest h = grind (arith, no_crlf_tail, no_cr_end (y ∷ xs) rest (no_crlf_tail (x ∷ []) (y ∷ xs ++ (10 ∷ rest)) h))
 
 strip_none : (xs rest : List ℕ) → HasNoCrLf (xs ++ (10 ∷ rest)) → strip_carriage_return xs ≡ xs
 strip_none xs rest h = rw (no_cr_end xs rest h) refl
@@ -74,9 +71,8 @@ same_widths ([] ∷ []) h = let e = width_of-nil in omega arith
 same_widths ((x ∷ xs) ∷ []) h = rw (eqb-suc-zero (length xs)) refl
 same_widths (x ∷ y ∷ more) h =
     let rest : List ℕ = join_with_byte 10 (y ∷ more) in
-    let first = ap width_of (strip_none x rest h) in
     let others = same_widths (y ∷ more) (no_crlf_tail (10 ∷ []) rest (no_crlf_tail x (10 ∷ rest) h)) in
-    omega arith
+    omega (arith, ap width_of (strip_none x rest h))
 
 pub same_dimension : (text : List ℕ) → HasNoCrLf text → text_dimension text ≡ (length (split_lines text), text_width text)
 same_dimension text h =

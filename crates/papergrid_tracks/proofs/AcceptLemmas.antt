@@ -2,7 +2,7 @@
 use Rattle.std.proofs.Common.{◌≡◌, ℕ, zero, suc, ◌+◌, ◌*◌, ◌<◌, ◌≤◌, ◌≢◌, ◌==◌, ◌&&◌, Bool, true, false, cond, inl, inr, List, [], ◌∷◌, length, map, get_or, sum, sum_by, refl, sym, ap, ap₂, ◌∙◌, subst, subst₂, arith, eqb, eqb-true, eq-eqb}
 use Rattle.std.specs.Prelude.{All, AllPairs, Contains, ⊤}
 use Rattle.std.specs.List.{AllByRecursion}
-use Rattle.std.proofs.Math.Nat.{mul-suc, mul-zero}
+use Rattle.std.proofs.Math.Nat.{mul-zero}
 use Rattle.std.proofs.Math.ListN.{get_or-map}
 use Rattle.std.proofs.lemmas.Bool.{cases_Bool, and_parts, and_from}
 use Rattle.std.proofs.lemmas.List.{get_or_default, length-map}
@@ -27,9 +27,7 @@ abbrev stands_at : Demand → Position → Bool
 stands_at d p = d.row == p.row && d.col == p.col
 
 at_position : (d : Demand) (p : Position) → stands_at d p ≡ true → position_of d ≡ p
-at_position d p t =
-    let e : (eqb d.row p.row ≡ true) × (eqb d.col p.col ≡ true) = and_parts (eqb d.row p.row) (eqb d.col p.col) t in
-    ap₂ (λ (r c : ℕ). record { row = r; col = c }) (eqb-true d.row p.row e.0) (eqb-true d.col p.col e.1)
+at_position d p t = grind (arith, and_parts, eqb-true)
 
 at_own_position : (d : Demand) → stands_at d (position_of d) ≡ true
 at_own_position d = and_from (eqb d.row d.row) (eqb d.col d.col) (eq-eqb d.row d.row refl) (eq-eqb d.col d.col refl)
@@ -43,11 +41,7 @@ at_sum f p ds = sum_by (λ d. cond (stands_at d p) (f d) 0) ds
 
 all_listed-nil : (f : Demand → ℕ) (ds : List Demand) → all_listed f [] ds ≡ 0
 all_listed-nil f [] = refl
-all_listed-nil f (d ∷ ds) =
-    let ih : all_listed f [] ds ≡ 0 = all_listed-nil f ds in
-    let a : all_listed f [] (d ∷ ds) ≡ f d * 0 + all_listed f [] ds = sum_by-cons (λ e. f e * times_listed [] e) d ds in
-    let z : f d * 0 ≡ 0 = mul-zero (f d) in
-    omega arith
+all_listed-nil f (d ∷ ds) = grind (arith, sum_by-cons, mul-zero, all_listed-nil f ds)
 
 all_listed-cons : (f : Demand → ℕ) (p : Position) (ps : List Position) (ds : List Demand) → all_listed f (p ∷ ps) ds ≡ at_sum f p ds + all_listed f ps ds
 all_listed-cons f p ps [] = refl
@@ -62,7 +56,6 @@ all_listed-cons f p ps (d ∷ ds) =
           let n' : times_listed (p ∷ ps) d ≡ 1 + times_listed ps d = n ∙ ap (λ b. cond b 1 0 + times_listed ps d) t in
           let s' : at_sum f p (d ∷ ds) ≡ f d + at_sum f p ds = s ∙ ap (λ b. cond b (f d) 0 + at_sum f p ds) t in
           let m : f d * times_listed (p ∷ ps) d ≡ f d * suc (times_listed ps d) = ap (λ k. f d * k) (let e : times_listed (p ∷ ps) d ≡ suc (times_listed ps d) = omega arith in e) in
-          let m' : f d * suc (times_listed ps d) ≡ f d * times_listed ps d + f d = mul-suc (f d) (times_listed ps d) in
           omega arith
       | inr x ↦
           let n' : times_listed (p ∷ ps) d ≡ 0 + times_listed ps d = n ∙ ap (λ b. cond b 1 0 + times_listed ps d) x in
@@ -86,11 +79,7 @@ IsDistinct-from (d ∷ ds) h = (
 -- where a cell stands no other one does
 at_sum-none : (f : Demand → ℕ) (p : Position) (ds : List Demand) → AllByRecursion (λ e. p ≢ position_of e) ds → at_sum f p ds ≡ 0
 at_sum-none f p [] all = refl
-at_sum-none f p (d ∷ ds) all =
-    let s : at_sum f p (d ∷ ds) ≡ cond (stands_at d p) (f d) 0 + at_sum f p ds = sum_by-cons (λ e. cond (stands_at e p) (f e) 0) d ds in
-    let s' : at_sum f p (d ∷ ds) ≡ 0 + at_sum f p ds = s ∙ ap (λ b. cond b (f d) 0 + at_sum f p ds) (not_at_position d p (λ e. all.0 (sym e))) in
-    let ih : at_sum f p ds ≡ 0 = at_sum-none f p ds all.1 in
-    omega arith
+at_sum-none f p (d ∷ ds) all = grind (arith, sum_by-cons, not_at_position, at_sum-none f p ds all.1)
 
 at_sum-here : (f : Demand → ℕ) (ds : List Demand) (c : Demand) → IsDistinct ds → Contains ds c → at_sum f (position_of c) ds ≡ f c
 at_sum-here f ds c distinct m = go ds distinct m.0 m.1 m.2
@@ -100,16 +89,13 @@ at_sum-here f ds c distinct m = go ds distinct m.0 m.1 m.2
     go (d ∷ ds) distinct zero l e =
         let s : at_sum f (position_of d) (d ∷ ds) ≡ cond (stands_at d (position_of d)) (f d) 0 + at_sum f (position_of d) ds = sum_by-cons (λ x. cond (stands_at x (position_of d)) (f x) 0) d ds in
         let s' : at_sum f (position_of d) (d ∷ ds) ≡ f d + at_sum f (position_of d) ds = s ∙ ap (λ b. cond b (f d) 0 + at_sum f (position_of d) ds) (at_own_position d) in
-        let none : at_sum f (position_of d) ds ≡ 0 = at_sum-none f (position_of d) ds distinct.0 in
-        let here : at_sum f (position_of d) (d ∷ ds) ≡ f d = omega arith in
-        subst (λ x. at_sum f (position_of x) (d ∷ ds) ≡ f x) e here
+        subst (λ x. at_sum f (position_of x) (d ∷ ds) ≡ f x) e (omega (arith, at_sum-none f (position_of d) ds distinct.0))
     go (d ∷ ds) distinct (suc k) l e =
         let m : Contains ds c = (k, omega arith, e) in
         let ne : position_of d ≢ position_of c = All-contains (λ x. position_of d ≢ position_of x) ds c (All-from_recursion (λ x. position_of d ≢ position_of x) ds distinct.0) m in
         let s : at_sum f (position_of c) (d ∷ ds) ≡ cond (stands_at d (position_of c)) (f d) 0 + at_sum f (position_of c) ds = sum_by-cons (λ x. cond (stands_at x (position_of c)) (f x) 0) d ds in
         let s' : at_sum f (position_of c) (d ∷ ds) ≡ 0 + at_sum f (position_of c) ds = s ∙ ap (λ b. cond b (f d) 0 + at_sum f (position_of c) ds) (not_at_position d (position_of c) ne) in
-        let ih : at_sum f (position_of c) ds ≡ f c = go ds distinct.1 k (omega arith) e in
-        omega arith
+        omega (arith, go ds distinct.1 k (omega arith) e)
 
 -- at a position there is one cell at most
 at_sum-one : (p : Position) (ds : List Demand) → IsDistinct ds → at_sum (λ _. 1) p ds ≤ 1
@@ -123,8 +109,7 @@ at_sum-one p (d ∷ ds) distinct =
           omega arith
       | inr f ↦
           let s' : at_sum (λ _. 1) p (d ∷ ds) ≡ 0 + at_sum (λ _. 1) p ds = s ∙ ap (λ b. cond b 1 0 + at_sum (λ _. 1) p ds) f in
-          let ih : at_sum (λ _. 1) p ds ≤ 1 = at_sum-one p ds distinct.1 in
-          omega arith
+          omega (arith, at_sum-one p ds distinct.1)
     ]
 
 at_sum-found : (p : Position) (ds : List Demand) → 1 ≤ at_sum (λ _. 1) p ds → (c : Demand) × Contains ds c × (position_of c ≡ p)
@@ -163,18 +148,15 @@ listed_cells (p ∷ ps) ds distinct e =
 all_listed-cells : (f : Demand → ℕ) (ds : List Demand) → IsDistinct ds → (cells : List Demand) → AllByRecursion (Contains ds) cells → all_listed f (map position_of cells) ds ≡ sum_by f cells
 all_listed-cells f ds distinct [] all = all_listed-nil f ds
 all_listed-cells f ds distinct (c ∷ cells) all =
-    let e : all_listed f (position_of c ∷ map position_of cells) ds ≡ at_sum f (position_of c) ds + all_listed f (map position_of cells) ds = all_listed-cons f (position_of c) (map position_of cells) ds in
-    let here : at_sum f (position_of c) ds ≡ f c = at_sum-here f ds c distinct all.0 in
     let ih : all_listed f (map position_of cells) ds ≡ sum_by f cells = all_listed-cells f ds distinct cells all.1 in
     let s : sum_by f (c ∷ cells) ≡ f c + sum_by f cells = sum_by-cons f c cells in
-    omega arith
+    omega (arith, all_listed-cons f (position_of c) (map position_of cells) ds, at_sum-here f ds c distinct all.0)
 
 sum_by-ones : (cells : List Demand) → sum_by (λ _. 1) cells ≡ length cells
 sum_by-ones [] = refl
 sum_by-ones (c ∷ cells) =
     let s : sum_by (λ _. 1) (c ∷ cells) ≡ 1 + sum_by (λ _. 1) cells = sum_by-cons (λ _. 1) c cells in
-    let ih : sum_by (λ _. 1) cells ≡ length cells = sum_by-ones cells in
-    omega arith
+    omega (arith, sum_by-ones cells)
 
 -- ---- what is accepted
 
@@ -274,10 +256,7 @@ ones_below : (cells : List Demand) → AllByRecursion (λ d. 1 ≤ d.span) cells
 ones_below [] spans = omega arith
 ones_below (c ∷ cells) spans =
     let s : sum_by (within (λ _. 1)) (c ∷ cells) ≡ within (λ _. 1) c + sum_by (within (λ _. 1)) cells = sum_by-cons (within (λ _. 1)) c cells in
-    let w : within (λ _. 1) c ≡ c.span = upto_ones c.span in
-    let l : 1 ≤ c.span = spans.0 in
-    let ih : length cells ≤ sum_by (within (λ _. 1)) cells = ones_below cells spans.1 in
-    omega arith
+    omega (arith, upto_ones c.span, spans.0, ones_below cells spans.1)
 
 -- ranges of a table that have no track in common are no more than its numbers
 pub few_positions : (line : ℕ → Bool) (n : ℕ) (ds : List Demand) (sizes : List ℕ) (positions : List Position) → All (λ d. 1 ≤ d.span) ds → IsAccepted (problem_of_demands line n ds) sizes positions → length positions ≤ n
@@ -287,8 +266,4 @@ few_positions line n ds sizes positions spans a =
     let inside : AllByRecursion (λ d. end_of d ≤ n) a.cells = recursion_from_All (λ d. end_of d ≤ n) a.cells (All-weaker (IsInTable n) (λ d. end_of d ≤ n) (λ d h. h.ends_within) a.cells cells) in
     let long : AllByRecursion (λ d. 1 ≤ d.span) a.cells = recursion_from_All (λ d. 1 ≤ d.span) a.cells (All-weaker (IsInTable n) (λ d. 1 ≤ d.span) (λ d h. h.covers_one) a.cells cells) in
     let p : upto (λ _. 1) n ≡ sum_by (within (λ _. 1)) a.cells + upto (outside a.cells (λ _. 1)) n = partition (λ _. 1) n a.cells inside (ArePairwiseDisjoint-from_AllPairs a.cells a.certificate.disjoint) in
-    let few : length a.cells ≤ sum_by (within (λ _. 1)) a.cells = ones_below a.cells long in
-    let all : upto (λ _. 1) n ≡ n = upto_ones n in
-    let many : length (map position_of a.cells) ≡ length a.cells = length-map a.cells position_of in
-    let same : length (map position_of a.cells) ≡ length positions = ap length a.at_positions in
-    omega arith
+    omega (arith, ones_below a.cells long, upto_ones n, length-map a.cells position_of, ap length a.at_positions)

@@ -49,11 +49,7 @@ between-same n f g same =
     fill_by_all (λ i. g (i + 1) - g i) (sizes_between n f) n 0 (length-map-range_with_len (λ i. f (i + 1) - f i) 0 n) at
   where
     at : (k : ℕ) → k < n → get_or (sizes_between n f) k 0 ≡ g (k + 1) - g k
-    at k l =
-        let a : get_or (sizes_between n f) k 0 ≡ f (k + 1) - f k = get_or-map-range_with_len (λ i. f (i + 1) - f i) 0 n k k 0 l (omega arith) in
-        let b : f (k + 1) ≡ g (k + 1) = same (k + 1) (omega arith) in
-        let c : f k ≡ g k = same k (omega arith) in
-        omega arith
+    at k l = grind (arith, get_or-map-range_with_len)
 
 module _ {line : ℕ → Bool} {n : ℕ} {kept : Demands} {demands : List Demand} (is_kept : AreGathered n kept demands) {lines : List Bool} {base : List ℕ} (begun : IsBegun line n kept lines base) where
   abbrev drawn : ℕ → Bool
@@ -110,11 +106,7 @@ module _ {line : ℕ → Bool} {n : ℕ} {kept : Demands} {demands : List Demand
         (subst (λ cells. AreHighestBoundaries base cells (get_or limits.lowest_position.items (length base) 0) limits.highest_position.items) asking_are are.highest_position)
 
     shares : fold (grown_sizes drawn) base (by_span (length base) kept.rest.items) ≡ sizes_of (problem_of_demands line n demands)
-    shares =
-        ap (λ k. fold (grown_sizes drawn) base (by_span k kept.rest.items)) begun.many
-        ∙ ap (fold (grown_sizes drawn) base) (by_span-kept n kept demands is_kept begun.small)
-        ∙ ap (λ xs. fold (grown_sizes drawn) xs (by_span n demands)) base_is
-        ∙ sizes-drawn drawn line n begun.drawn demands table
+    shares = grind (arith, by_span-kept, base_is, sizes-drawn, table)
 
     exact : (sizes : List ℕ) → sizes ≡ sizes_between (length base) (λ i. min (boundaries_of (fold (grown_sizes drawn) base (by_span (length base) kept.rest.items)) i) (get_or limits.highest_position.items i 0)) →
         sizes ≡ least_of (problem_of_demands line n demands)

@@ -1,5 +1,5 @@
 -- No least size is above the top minimum size, where none of the given sizes is.
-use Rattle.std.proofs.Common.{◌≡◌, ℕ, suc, ◌+◌, ◌-◌, ◌<◌, ◌≤◌, max, min, Bool, List, length, get_or, take, sum, ap, arith}
+use Rattle.std.proofs.Common.{◌≡◌, ℕ, suc, ◌+◌, ◌-◌, ◌<◌, ◌≤◌, min, Bool, List, length, get_or, take, sum, ap, arith}
 use Rattle.std.specs.Prelude.{All, map}
 use Rattle.std.proofs.lemmas.List.Elements.{All-map, Contains-get_or}
 use Rattle.std.proofs.lemmas.List.FromFn.{get_or-map-range_with_len}
@@ -16,17 +16,12 @@ use Rattle.papergrid_tracks.proofs.HighestLemmas.{mirror, lowest_position_back, 
 -- the lowest position of a boundary is past the one before by at most what a cell asks whose range ends there
 lowest_position-step : (asks : Demand → ℕ) (ds : List Demand) (n : ℕ) → All (IsInTable n) ds → (i m : ℕ) → All (λ d. end_of d ≡ suc i → asks d ≤ m) ds → lowest_position asks ds (suc i) ≤ lowest_position asks ds i + m
 lowest_position-step asks ds n table i m each =
-    let at : lowest_position asks ds (suc i) ≡ max (lowest_position asks ds i) (pushed_lower_bound asks ds (lowest_position_to asks ds i) (suc i)) = lowest_position_to-at asks ds i in
     let below : pushed_lower_bound asks ds (lowest_position_to asks ds i) (suc i) ≤ lowest_position asks ds i + m =
     pushed-below asks ds (lowest_position_to asks ds i) (suc i) (lowest_position asks ds i + m) (λ k d l ends. push_at (get_or ds k d) (table k d l) ends (each k d l ends)) in
-    omega arith
+    omega (arith, lowest_position_to-at asks ds i)
   where
     push_at : (d : Demand) → IsInTable n d → end_of d ≡ suc i → asks d ≤ m → lowest_position_to asks ds i d.start + asks d ≤ lowest_position asks ds i + m
-    push_at d cell ends le =
-        let one : 1 ≤ d.span = cell.covers_one in
-        let a : lowest_position_to asks ds i d.start ≡ lowest_position asks ds d.start = lowest_position_to-is asks ds i d.start (omega arith) in
-        let b : lowest_position asks ds d.start ≤ lowest_position asks ds i = lowest_position-monotone asks ds d.start i (omega arith) in
-        omega arith
+    push_at d cell ends le = grind (arith, lowest_position_to, lowest_position, lowest_position_to-is, lowest_position-monotone)
 
 highest_position-step : (asks : Demand → ℕ) (n : ℕ) (ds : List Demand) → All (IsInTable n) ds → (i m : ℕ) → i < n → All (λ d. d.start ≡ i → asks d ≤ m) ds →
     highest_position asks n ds (i + 1) ≤ highest_position asks n ds i + m
@@ -38,12 +33,7 @@ highest_position-step asks n ds table i m l each =
     omega arith
   where
     start_at : (d : Demand) → IsInTable n d → (d.start ≡ i → asks d ≤ m) → end_of (mirror n d) ≡ suc (n - (i + 1)) → asks (mirror n (mirror n d)) ≤ m
-    start_at d cell here ends =
-        let within : d.start + d.span ≤ n = cell.ends_within in
-        let ends' : (n - (d.start + d.span)) + d.span ≡ suc (n - (i + 1)) = ends in
-        let a : asks (mirror n (mirror n d)) ≡ asks d = ap asks (mirrored-twice n d cell) in
-        let b : asks d ≤ m = here (omega arith) in
-        omega arith
+    start_at d cell here ends = grind (arith, mirror, mirrored-twice)
 
 pub bound-least_sizes : (line : ℕ → Bool) (n : ℕ) (demands : List Demand) (sizes : List ℕ) → All (IsInTable n) demands →
     (i : ℕ) → i < n → get_or sizes i 0 ≤ top_minimum demands i → get_or (least_sizes (problem_of_demands line n demands) sizes) i 0 ≤ top_minimum demands i

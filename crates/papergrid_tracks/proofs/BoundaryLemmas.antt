@@ -1,68 +1,40 @@
 -- Sizes that fit, and boundaries.
 use Rattle.std.proofs.Common.{◌≡◌, ℕ, zero, suc, ◌+◌, ◌-◌, ◌<◌, ◌≤◌, min, Bool, List, length, get_or, take, sum, ap, arith, add-zero}
 use Rattle.std.specs.Prelude.{All}
-use Rattle.std.proofs.lemmas.List.Elements.{All-weaker}
 use Rattle.std.proofs.lemmas.List.FromFn.{get_or-map-range_with_len, length-map-range_with_len}
 use Rattle.std.proofs.lemmas.Grind.{common_steps}
 use Rattle.papergrid_tracks.specs.declared.demand.Demand.{Demand}
 use Rattle.papergrid_tracks.specs.Problem.{problem_of_demands}
-use Rattle.papergrid_tracks.specs.Ranges.{end_of, inner_lines, IsInTable}
+use Rattle.papergrid_tracks.specs.Ranges.{end_of, IsInTable}
 use Rattle.papergrid_tracks.specs.Fits.{range_sum, HasRoom, Fits}
 use Rattle.papergrid_tracks.proofs.Upto.{upto, upto-ext, upto-split, sum-take, sum-upto, range_sum-within, within}
 use Rattle.papergrid_tracks.specs.TrackBoundaries.{net_minimum, boundaries_of, AreBoundaries, sizes_between}
 
 pub rises : (asks : Demand → ℕ) (n : ℕ) (ds : List Demand) (boundary : ℕ → ℕ) → AreBoundaries asks n ds boundary → (i k : ℕ) → i + k ≤ n → boundary i ≤ boundary (i + k)
 rises asks n ds boundary are i zero le = rw add-zero (omega arith)
-rises asks n ds boundary are i (suc k) le =
-    let ih : boundary i ≤ boundary (i + k) = rises asks n ds boundary are i k (omega arith) in
-    let next : boundary (i + k) ≤ boundary ((i + k) + 1) = are.rise (i + k) (omega arith) in
-    let e : (i + k) + 1 ≡ i + suc k = omega arith in
-    rw (← e) (omega arith)
+rises asks n ds boundary are i (suc k) le = grind (arith, rises asks n ds boundary are i k (omega arith))
 
 -- the sum over a range is the distance between its boundaries
 pub boundaries-apart : (sizes : List ℕ) (d : Demand) → boundaries_of sizes (end_of d) ≡ boundaries_of sizes d.start + range_sum sizes d
-boundaries-apart sizes d =
-    let f : ℕ → ℕ = λ i. get_or sizes i 0 in
-    let a : sum (take (d.start + d.span) sizes) ≡ upto (λ i. get_or sizes i 0) (d.start + d.span) = sum-take (d.start + d.span) sizes in
-    let b : sum (take d.start sizes) ≡ upto (λ i. get_or sizes i 0) d.start = sum-take d.start sizes in
-    let c : upto (λ i. get_or sizes i 0) (d.start + d.span) ≡ upto (λ i. get_or sizes i 0) d.start + within (λ i. get_or sizes i 0) d = upto-split (λ i. get_or sizes i 0) d.start d.span in
-    let e : range_sum sizes d ≡ within (λ i. get_or sizes i 0) d = range_sum-within sizes d in
-    omega arith
+boundaries-apart sizes d = grind (arith, upto, sum-take, within, upto-split, range_sum-within)
 
 pub boundaries-next : (sizes : List ℕ) (i : ℕ) → boundaries_of sizes (i + 1) ≡ boundaries_of sizes i + get_or sizes i 0
-boundaries-next sizes i =
-    let a : sum (take (suc i) sizes) ≡ upto (λ i. get_or sizes i 0) i + get_or sizes i 0 = sum-take (suc i) sizes in
-    let b : sum (take i sizes) ≡ upto (λ i. get_or sizes i 0) i = sum-take i sizes in
-    let e : i + 1 ≡ suc i = omega arith in
-    rw e (omega arith)
+boundaries-next sizes i = grind (arith, upto, sum-take)
 
 boundaries-rise : (sizes : List ℕ) (i : ℕ) → boundaries_of sizes i ≤ boundaries_of sizes (i + 1)
 boundaries-rise sizes i = let e : boundaries_of sizes (i + 1) ≡ boundaries_of sizes i + get_or sizes i 0 = boundaries-next sizes i in omega arith
 
 pub AreBoundaries-boundaries_of : (line : ℕ → Bool) (n : ℕ) (demands : List Demand) (sizes : List ℕ) → Fits (problem_of_demands line n demands) sizes → AreBoundaries (net_minimum line) n demands (boundaries_of sizes)
-AreBoundaries-boundaries_of line n demands sizes fits = record {
-  rise = λ i l. boundaries-rise sizes i;
-  apart = All-weaker (HasRoom line sizes) (λ d. boundaries_of sizes d.start + net_minimum line d ≤ boundaries_of sizes (end_of d))
-      (λ d room. let e : boundaries_of sizes (end_of d) ≡ boundaries_of sizes d.start + range_sum sizes d = boundaries-apart sizes d in
-      let room' : d.minimum ≤ range_sum sizes d + inner_lines line d = room in omega arith)
-      demands fits.room;
-}
+AreBoundaries-boundaries_of line n demands sizes fits = grind (arith, boundaries-rise, boundaries-apart)
 
 pub Fits-from_boundaries : (line : ℕ → Bool) (n : ℕ) (demands : List Demand) (sizes : List ℕ) → length sizes ≡ n → AreBoundaries (net_minimum line) n demands (boundaries_of sizes) → Fits (problem_of_demands line n demands) sizes
-Fits-from_boundaries line n demands sizes same are = record {
-  one_each = same;
-  room = All-weaker (λ d. boundaries_of sizes d.start + net_minimum line d ≤ boundaries_of sizes (end_of d)) (HasRoom line sizes)
-      (λ d apart. let e : boundaries_of sizes (end_of d) ≡ boundaries_of sizes d.start + range_sum sizes d = boundaries-apart sizes d in
-      let apart' : boundaries_of sizes d.start + net_minimum line d ≤ boundaries_of sizes (end_of d) = apart in omega arith)
-      demands are.apart;
-}
+Fits-from_boundaries line n demands sizes same are = grind (arith, boundaries-apart)
 
 -- boundaries, the sizes between them, and the boundaries of these
 telescope : (boundary : ℕ → ℕ) (k : ℕ) → ((i : ℕ) → i < k → boundary i ≤ boundary (i + 1)) → upto (λ i. boundary (i + 1) - boundary i) k + boundary 0 ≡ boundary k
 telescope boundary zero rise = omega arith
 telescope boundary (suc k) rise =
     let ih : upto (λ i. boundary (i + 1) - boundary i) k + boundary 0 ≡ boundary k = telescope boundary k (λ i l. rise i (omega arith)) in
-    let le : boundary k ≤ boundary (k + 1) = rise k (omega arith) in
     let e : k + 1 ≡ suc k = omega arith in
     rw (← e) (omega arith)
 
@@ -80,12 +52,10 @@ length-sizes_between n boundary = length-map-range_with_len (λ i. boundary (i +
 
 pub sum-sizes_between : (n : ℕ) (boundary : ℕ → ℕ) → ((i : ℕ) → i < n → boundary i ≤ boundary (i + 1)) → sum (sizes_between n boundary) + boundary 0 ≡ boundary n
 sum-sizes_between n boundary rise =
-    let a : sum (sizes_between n boundary) ≡ upto (λ i. get_or (sizes_between n boundary) i 0) (length (sizes_between n boundary)) = sum-upto (sizes_between n boundary) in
     let b : length (sizes_between n boundary) ≡ n = length-sizes_between n boundary in
     let c : sum (take n (sizes_between n boundary)) ≡ upto (λ i. get_or (sizes_between n boundary) i 0) n = sum-take n (sizes_between n boundary) in
     let d : upto (λ i. get_or (sizes_between n boundary) i 0) (length (sizes_between n boundary)) ≡ upto (λ i. get_or (sizes_between n boundary) i 0) n = ap (upto (λ i. get_or (sizes_between n boundary) i 0)) b in
-    let e : boundaries_of (sizes_between n boundary) n + boundary 0 ≡ boundary n = boundaries-sizes_between n boundary rise n (omega arith) in
-    omega arith
+    omega (arith, boundaries-sizes_between n boundary rise n (omega arith), sum-upto (sizes_between n boundary))
 
 pub Fits-sizes_between : (line : ℕ → Bool) (n : ℕ) (demands : List Demand) (boundary : ℕ → ℕ) → All (IsInTable n) demands → AreBoundaries (net_minimum line) n demands boundary → Fits (problem_of_demands line n demands) (sizes_between n boundary)
 Fits-sizes_between line n demands boundary table are = record {
@@ -98,18 +68,11 @@ Fits-sizes_between line n demands boundary table are = record {
         let le : end_of d ≤ n = cell.ends_within in
         let a : boundaries_of (sizes_between n boundary) (end_of d) ≡ boundaries_of (sizes_between n boundary) d.start + range_sum (sizes_between n boundary) d = boundaries-apart (sizes_between n boundary) d in
         let b : boundaries_of (sizes_between n boundary) (end_of d) + boundary 0 ≡ boundary (end_of d) = boundaries-sizes_between n boundary are.rise (end_of d) le in
-        let c : boundaries_of (sizes_between n boundary) d.start + boundary 0 ≡ boundary d.start = boundaries-sizes_between n boundary are.rise d.start (omega arith) in
-        omega arith
+        omega (arith, boundaries-sizes_between n boundary are.rise d.start (omega arith))
 
 pub AreBoundaries-min : (asks : Demand → ℕ) (n : ℕ) (demands : List Demand) (a b : ℕ → ℕ) → AreBoundaries asks n demands a → AreBoundaries asks n demands b →
     AreBoundaries asks n demands (λ i. min (a i) (b i))
-AreBoundaries-min asks n demands a b are are' = record {
-  rise = λ i l. let x : a i ≤ a (i + 1) = are.rise i l in let y : b i ≤ b (i + 1) = are'.rise i l in omega arith;
-  apart = λ k d l.
-      let x : a (get_or demands k d).start + asks (get_or demands k d) ≤ a (end_of (get_or demands k d)) = are.apart k d l in
-      let y : b (get_or demands k d).start + asks (get_or demands k d) ≤ b (end_of (get_or demands k d)) = are'.apart k d l in
-      omega arith;
-}
+AreBoundaries-min asks n demands a b are are' = grind arith
 
 pub take_whole : (n : ℕ) (xs : List ℕ) → length xs ≡ n → take n xs ≡ xs
 take_whole n xs e = grind (arith, common_steps)

@@ -25,11 +25,7 @@ module _ (R : Position → Position → Type 0) (R-trans : (p q r : Position) �
   ]
 
 pub AreInOrder-trans : (direction : Direction) (span_of : Position → ℕ) (p q r : Position) → AreInOrder direction span_of p q → AreInOrder direction span_of q r → AreInOrder direction span_of p r
-AreInOrder-trans direction span_of p q r a b =
-    let x : along direction p < along direction q = a.0 in
-    let y : along direction p + span_of p ≤ along direction q = a.1 in
-    let z : along direction q < along direction r = b.0 in
-    (omega arith, omega arith)
+AreInOrder-trans direction span_of p q r a b = grind arith
 
 -- the numbers rise, and no two ranges meet
 pub rising-from_order : (direction : Direction) (span_of : Position → ℕ) (positions : List Position) → AllPairs (AreInOrder direction span_of) positions → AllPairs (AreRising direction) positions
@@ -54,15 +50,13 @@ count_by-one f [] i e l others = absurd (omega arith)
 count_by-one f (p ∷ ps) zero e l others =
     let s : count_by f (p ∷ ps) ≡ cond (f p) 1 0 + count_by f ps = sum_by-cons (λ q. cond (f q) 1 0) p ps in
     let rest : count_by f ps ≡ 0 = count_by-none f ps (λ k q l. others (suc k) q (omega arith) (inr (omega arith))) in
-    let all : count_by f (p ∷ ps) ≡ cond (f p) 1 0 = omega arith in
-    all
+    (omega arith)
 count_by-one f (p ∷ ps) (suc i) e l others =
     let s : count_by f (p ∷ ps) ≡ cond (f p) 1 0 + count_by f ps = sum_by-cons (λ q. cond (f q) 1 0) p ps in
     let s' : count_by f (p ∷ ps) ≡ 0 + count_by f ps = s ∙ ap (λ b. cond b 1 0 + count_by f ps) (others 0 p (omega arith) (inl (omega arith))) in
     let rest : count_by f ps ≡ cond (f (get_or ps i e)) 1 0 =
     count_by-one f ps i e (omega arith) (λ k q l way. others (suc k) q (omega arith) (elim way [ inl x ↦ inl (omega arith) | inr x ↦ inr (omega arith) ])) in
-    let all : count_by f (p ∷ ps) ≡ cond (f (get_or ps i e)) 1 0 = omega arith in
-    all
+    (omega arith)
 
 -- ---- where the numbers rise, a position can be listed only where they reach its own
 
@@ -77,37 +71,28 @@ other_number : (direction : Direction) (p q : Position) → (along direction p �
 other_number direction p q ne = elim (cases_Bool (is_same p q)) [ inl t ↦ absurd (ne (along-same direction p q t)) | inr f ↦ f ]
 
 pub never_falls : (direction : Direction) (positions : List Position) → AllPairs (AreRising direction) positions → IsNonDecreasingBy (along direction) positions
-never_falls direction positions rising i j d le l = elim (cases_eq i j) [
-  | inl e ↦ subst (λ k. along direction (get_or positions i d) ≤ along direction (get_or positions k d)) e (omega arith)
-  | inr ne ↦ let lt : along direction (get_or positions i d) < along direction (get_or positions j d) = rising i j d (omega arith) l in omega arith
-]
+never_falls direction positions rising i j d le l = grind (arith, cases_eq)
 
 -- the position at an index has that very number, so all before it have lesser ones
 pub point-guess : (direction : Direction) (positions : List Position) (start : ℕ) (e : Position) → AllPairs (AreRising direction) positions → start < length positions → along direction (get_or positions start e) ≡ start →
     IsPartitionPoint (λ p. nat_lt (along direction p) start ≡ true) (λ p. nat_lt (along direction p) start ≡ false) positions start
 point-guess direction positions start e rising l is = (
   (λ k d low lt.
-      let below : along direction (get_or positions k d) < along direction (get_or positions start d) = rising k start d lt l in
-      let there : along direction (get_or positions start d) ≡ start = ap (along direction) (get_or_default positions start d e l) ∙ is in
-      lt-ltb _ _ (omega (arith, below, there))),
+      lt-ltb _ _ (omega (arith, rising k start d lt l, ap (along direction) (get_or_default positions start d e l) ∙ is))),
   (λ k d le lk.
       let there : along direction (get_or positions start d) ≡ start = ap (along direction) (get_or_default positions start d e l) ∙ is in
       elim (cases_eq k start) [
         | inl same ↦
-            let at : along direction (get_or positions k d) ≡ start = ap (λ j. along direction (get_or positions j d)) same ∙ there in
-            le-ltb _ _ (omega (arith, at))
+            le-ltb _ _ (omega (arith, ap (λ j. along direction (get_or positions j d)) same ∙ there))
         | inr ne ↦
-            let above : along direction (get_or positions start d) < along direction (get_or positions k d) = rising start k d (omega arith) lk in
-            le-ltb _ _ (omega (arith, above, there))
+            le-ltb _ _ (omega (arith, rising start k d (omega arith) lk, there))
       ]),
 )
 
 module _ (direction : Direction) (positions : List Position) (position : Position) (at : ℕ) (rising : AllPairs (AreRising direction) positions)
     (point : IsPartitionPoint (λ p. nat_lt (along direction p) (along direction position) ≡ true) (λ p. nat_lt (along direction p) (along direction position) ≡ false) positions at) where
   before-other : (k : ℕ) (p : Position) → k < at → is_same position (get_or positions k p) ≡ false
-  before-other k p l =
-      let below : along direction (get_or positions k p) < along direction position = ltb-true (along direction (get_or positions k p)) (along direction position) (point.0 k p (omega arith) l) in
-      other_number direction position (get_or positions k p) (λ e. omega arith)
+  before-other k p l = grind (arith, ltb-true, other_number)
 
   pub listed-none : length positions ≤ at → count_by (is_same position) positions ≡ 0
   listed-none le = count_by-none (is_same position) positions (λ k p l. before-other k p (omega arith))
@@ -117,6 +102,5 @@ module _ (direction : Direction) (positions : List Position) (position : Positio
     | inl x ↦ before-other k p x
     | inr x ↦
         let reached : along direction position ≤ along direction (get_or positions at p) = ltb-false (along direction (get_or positions at p)) (along direction position) (point.1 at p (omega arith) l) in
-        let further : along direction (get_or positions at p) < along direction (get_or positions k p) = rising at k p x lk in
-        other_number direction position (get_or positions k p) (λ e. omega arith)
+        other_number direction position (get_or positions k p) (λ e. omega (arith, rising at k p x lk))
   ])

@@ -1,6 +1,6 @@
 -- The cells of the certificate certify the sizes, so the sizes are least.
-use Rattle.std.proofs.Common.{◌≡◌, ℕ, ◌+◌, ◌-◌, ◌<◌, ◌≤◌, ◌≢◌, Bool, true, false, ◌&&◌, ◌==◌, ◌⊎◌, inl, inr, List, [], ◌∷◌, length, get_or, sum, sum_by, refl, sym, ap, ◌∙◌, subst, arith, eqb, ne_eqb, eqb-true, Option, Some, None}
-use Rattle.std.specs.Prelude.{find, All, Contains, count_by}
+use Rattle.std.proofs.Common.{◌≡◌, ℕ, ◌+◌, ◌-◌, ◌<◌, ◌≤◌, ◌≢◌, Bool, true, false, ◌&&◌, ◌==◌, ◌⊎◌, inl, inr, List, [], ◌∷◌, length, get_or, sum, sum_by, refl, sym, ap, ◌∙◌, subst, arith, eqb, ne_eqb, eqb-true, Option, Some, None, rules}
+use Rattle.std.specs.Prelude.{find, All, Contains}
 use Rattle.std.specs.List.{AllByRecursion, range_with_len}
 use Rattle.std.proofs.lemmas.Bool.{cases_Bool, and_parts, or_parts, or_left, or_right, eqb-false, true≢false}
 use Rattle.std.proofs.lemmas.List.Sums.{sum_by-cons}
@@ -9,7 +9,7 @@ use Rattle.std.specs.Option.{option_or}
 use Rattle.papergrid_tracks.specs.Problem.{problem_of_demands}
 use Rattle.papergrid_tracks.specs.declared.demand.Demand.{Demand}
 use Rattle.papergrid_tracks.specs.Ranges.{end_of, holds, AreDisjoint, inner_lines, IsInTable}
-use Rattle.papergrid_tracks.specs.Fits.{range_sum, IsCertificate, IsLeast}
+use Rattle.papergrid_tracks.specs.Fits.{IsCertificate, IsLeast}
 use Rattle.papergrid_tracks.specs.Sizes.{base_size, base_sizes}
 use Rattle.papergrid_tracks.specs.Certificates.{growing_demands, outermost, single_at, certificate_cells}
 use Rattle.papergrid_tracks.proofs.Upto.{upto, upto-ext, upto-add, upto-zero, sum-upto, within, range_sum-within, holds_cases}
@@ -40,10 +40,7 @@ weight-option_or w (Some x) p h = rw (h x refl) (omega arith)
 
 -- a cell that covers something holds its start
 pub holds_start : (d : Demand) (i : ℕ) → 1 ≤ d.span → d.start ≡ i → holds d i ≡ true
-holds_start d i one e = elim (holds_cases d i) [
-  | inl h ↦ h.0
-  | inr h ↦ absurd (elim h.1 [ inl x ↦ omega arith | inr x ↦ omega arith ])
-]
+holds_start d i one e = grind (arith, holds_cases)
 
 covered-found : (ds : List Demand) (i : ℕ) (d : Demand) → AllByRecursion (λ e. 1 ≤ e.span) ds → find (λ e. e.start == i) ds ≡ Some d → covered ds i ≡ true
 covered-found [] i d ones e = absurd (none_some e)
@@ -61,11 +58,9 @@ two_found : (ds : List Demand) (i j : ℕ) (a b : Demand) → ArePairwiseDisjoin
 two_found [] i j a b disjoint ne e e' = absurd (none_some e)
 two_found (c ∷ ds) i j a b disjoint ne e e' = elim (cases_Bool (eqb c.start i)) [
   | inl t ↦
-      let at_i : c.start ≡ i = eqb-true c.start i t in
-      let not_j : c.start ≢ j = λ at_j. ne (sym at_i ∙ at_j) in
-      let same : c ≡ a = some_same (rw t at e) in
+      let not_j : c.start ≢ j = λ at_j. ne (sym (eqb-true c.start i t) ∙ at_j) in
       let later : find (λ e. e.start == j) ds ≡ Some b = rw (ne_eqb c.start j not_j) at e' in
-      subst (λ y. AreDisjoint y b) same (find-all (AreDisjoint c) (λ e. e.start == j) ds b disjoint.0 later).1
+      subst (λ y. AreDisjoint y b) (some_same (rw t at e)) (find-all (AreDisjoint c) (λ e. e.start == j) ds b disjoint.0 later).1
   | inr f ↦ elim (cases_Bool (eqb c.start j)) [
     | inl t ↦
         let same : c ≡ b = some_same (rw t at e') in
@@ -88,10 +83,9 @@ single_is demands growing_cells sizes i d e = elim (cases_Bool (covered growing_
   | inr f ↦ elim (cases_Bool (eqb (get_or sizes i 0) 0)) [
     | inl z ↦ absurd (none_some {d = d} (rw (f, z) at e))
     | inr nz ↦
-        let e' : find (λ c. c.span == 1 && c.start == i && c.minimum == get_or sizes i 0) demands ≡ Some d = rw (f, nz) at e in
         let found : ((d.span == 1 && d.start == i && d.minimum == get_or sizes i 0) ≡ true) × Contains demands d =
         find-all (Contains demands) (λ c. c.span == 1 && c.start == i && c.minimum == get_or sizes i 0) demands d
-        (recursion_from_All (Contains demands) demands (All-contains_itself demands)) e' in
+        (recursion_from_All (Contains demands) demands (All-contains_itself demands)) (rw (f, nz) at e) in
         let parts : ((d.span == 1 && d.start == i) ≡ true) × (eqb d.minimum (get_or sizes i 0) ≡ true) = and_parts (d.span == 1 && d.start == i) (eqb d.minimum (get_or sizes i 0)) found.0 in
         let alone : (d.span ≡ 1) × (d.start ≡ i) = holds_alone d i parts.0 in
         record { free = f; one = alone.0; at = alone.1; size = eqb-true d.minimum (get_or sizes i 0) parts.1; cell = found.1 }
@@ -105,14 +99,9 @@ sum-tight : (line : ℕ → Bool) (sizes : List ℕ) (ds : List Demand) → AllB
     sum_by (λ d. d.minimum) ds ≡ sum_by (within (λ i. get_or sizes i 0)) ds + sum_by (inner_lines line) ds
 sum-tight line sizes [] all = omega arith
 sum-tight line sizes (d ∷ ds) all =
-    let ih : sum_by (λ d. d.minimum) ds ≡ sum_by (within (λ i. get_or sizes i 0)) ds + sum_by (inner_lines line) ds = sum-tight line sizes ds all.1 in
     let a : sum_by (λ d. d.minimum) (d ∷ ds) ≡ d.minimum + sum_by (λ d. d.minimum) ds = sum_by-cons (λ d. d.minimum) d ds in
-    let b : sum_by (within (λ i. get_or sizes i 0)) (d ∷ ds) ≡ within (λ i. get_or sizes i 0) d + sum_by (within (λ i. get_or sizes i 0)) ds =
-    sum_by-cons (within (λ i. get_or sizes i 0)) d ds in
-    let c : sum_by (inner_lines line) (d ∷ ds) ≡ inner_lines line d + sum_by (inner_lines line) ds = sum_by-cons (inner_lines line) d ds in
-    let r : range_sum sizes d ≡ within (λ i. get_or sizes i 0) d = range_sum-within sizes d in
-    let t : d.minimum ≡ range_sum sizes d + inner_lines line d = all.0 in
-    omega arith
+    let b = sum_by-cons (within (λ i. get_or sizes i 0)) d ds in
+    omega (arith, sum-tight line sizes ds all.1, sum_by-cons (inner_lines line) d ds, range_sum-within sizes d, all.0)
 
 -- the facts on the growing cells that the rest stands on
 pub record GrowingCellsAre (line : ℕ → Bool) (n : ℕ) (demands growing_cells : List Demand) (sizes : List ℕ) : Type 0 where
@@ -131,8 +120,6 @@ module _ (line : ℕ → Bool) (n : ℕ) (demands growing_cells : List Demand) (
   found_single i j d e f s =
       let free : covered (outermost growing_cells) j ≡ false = covered-outermost growing_cells j ∙ s.free in
       let out : holds d j ≡ false = (find-all (λ c. holds c j ≡ false) (λ c. c.start == i) (outermost growing_cells) d (not_covered-each (outermost growing_cells) j free) f).1 in
-      let one : e.span ≡ 1 = s.one in
-      let at : e.start ≡ j = s.at in
       elim (holds_cases d j) [
         | inl h ↦ absurd (true≢false (sym h.0 ∙ out))
         | inr h ↦ elim h.1 [ inl x ↦ inr (omega arith) | inr x ↦ inl (omega arith) ]
@@ -142,21 +129,16 @@ module _ (line : ℕ → Bool) (n : ℕ) (demands growing_cells : List Demand) (
       option_or (find (λ d. d.start == i) (outermost growing_cells)) (single_at demands growing_cells sizes i) ≡ Some d →
       option_or (find (λ d. d.start == j) (outermost growing_cells)) (single_at demands growing_cells sizes j) ≡ Some e → AreDisjoint d e
   pair_apart i j d e l p q =
-      let ne : i ≢ j = omega arith in
       elim (option_or_cases (find (λ d. d.start == i) (outermost growing_cells)) (single_at demands growing_cells sizes i) d p) [
         | inl x ↦ elim (option_or_cases (find (λ d. d.start == j) (outermost growing_cells)) (single_at demands growing_cells sizes j) e q) [
-          | inl y ↦ two_found (outermost growing_cells) i j d e g.disjoint ne x y
+          | inl y ↦ two_found (outermost growing_cells) i j d e g.disjoint (omega arith) x y
           | inr y ↦ found_single i j d e x (single_is demands growing_cells sizes j e y)
         ]
         | inr x ↦ elim (option_or_cases (find (λ d. d.start == j) (outermost growing_cells)) (single_at demands growing_cells sizes j) e q) [
           | inl y ↦ AreDisjoint-sym e d (found_single j i e d y (single_is demands growing_cells sizes i d x))
           | inr y ↦
               let s : IsSingle demands growing_cells sizes i d = single_is demands growing_cells sizes i d x in
-              let s' : IsSingle demands growing_cells sizes j e = single_is demands growing_cells sizes j e y in
-              let a : d.start ≡ i = s.at in
-              let b : d.span ≡ 1 = s.one in
-              let c : e.start ≡ j = s'.at in
-              inl (omega arith)
+              inl (omega (arith, s.at, s.one, (single_is demands growing_cells sizes j e y).at))
         ]
       ]
 
@@ -196,17 +178,14 @@ module _ (line : ℕ → Bool) (n : ℕ) (demands growing_cells : List Demand) (
   single-minimum : (i : ℕ) → i < n → weight (λ d. d.minimum) (single_at demands growing_cells sizes i) ≡ outside (outermost growing_cells) (λ i. get_or sizes i 0) i
   single-minimum i l = elim (cases_Bool (covered growing_cells i)) [
     | inl t ↦
-        let t' : covered (outermost growing_cells) i ≡ true = covered-outermost growing_cells i ∙ t in
-        rw (t, t') refl
+        rw (t, (covered-outermost growing_cells i ∙ t)) refl
     | inr f ↦
-        let f' : covered (outermost growing_cells) i ≡ false = covered-outermost growing_cells i ∙ f in
-        rw f' (elim (cases_Bool (eqb (get_or sizes i 0) 0)) [
+        rw (covered-outermost growing_cells i ∙ f) (elim (cases_Bool (eqb (get_or sizes i 0) 0)) [
           | inl z ↦ rw (f, z) (sym (eqb-true (get_or sizes i 0) 0 z))
           | inr nz ↦
               let ne : get_or sizes i 0 ≢ 0 = eqb-false (get_or sizes i 0) 0 nz in
-              let b : base_size demands i ≡ get_or sizes i 0 = sym (g.base i l f) in
               let found : (d : Demand) × (find (λ e. (e.span == 1 && e.start == i) && e.minimum == get_or sizes i 0) demands ≡ Some d) =
-              find-greatest (λ e. e.span == 1 && e.start == i) demands (get_or sizes i 0) (omega arith) b in
+              find-greatest (λ e. e.span == 1 && e.start == i) demands (get_or sizes i 0) (omega arith) (sym (g.base i l f)) in
               let e : single_at demands growing_cells sizes i ≡ Some found.0 = rw (f, nz) found.1 in
               ap (weight (λ d. d.minimum)) e ∙ (single_is demands growing_cells sizes i found.0 e).size
         ])
@@ -217,26 +196,20 @@ module _ (line : ℕ → Bool) (n : ℕ) (demands growing_cells : List Demand) (
     where
       step : (o : Option Demand) → single_at demands growing_cells sizes i ≡ o → weight (inner_lines line) o ≡ 0
       step None e = refl
-      step (Some d) e =
-          let one : d.span ≡ 1 = (single_is demands growing_cells sizes i d e).one in
-          let z : d.span - 1 ≡ 0 = omega arith in
-          ap (λ k. count_by line (range_with_len (d.start + 1) k)) z
+      step (Some d) e = grind (arith, single_is)
 
   certificate_cells-adds_up : sum_by (λ d. d.minimum) (certificate_cells n demands growing_cells sizes) ≡ sum sizes + sum_by (inner_lines line) (certificate_cells n demands growing_cells sizes)
   certificate_cells-adds_up =
       let a : sum_by (λ d. d.minimum) (certificate_cells n demands growing_cells sizes) ≡ sum_by (λ d. d.minimum) (outermost growing_cells) + upto (λ i. weight (λ d. d.minimum) (single_at demands growing_cells sizes i)) n = sum-certificate_cells (λ d. d.minimum) in
-      let b : sum_by (inner_lines line) (certificate_cells n demands growing_cells sizes) ≡ sum_by (inner_lines line) (outermost growing_cells) + upto (λ i. weight (inner_lines line) (single_at demands growing_cells sizes i)) n = sum-certificate_cells (inner_lines line) in
       let z : upto (λ i. weight (inner_lines line) (single_at demands growing_cells sizes i)) n ≡ 0 = upto-zero (λ i. weight (inner_lines line) (single_at demands growing_cells sizes i)) n (λ i l. single-inner i) in
       let o : upto (λ i. weight (λ d. d.minimum) (single_at demands growing_cells sizes i)) n ≡ upto (outside (outermost growing_cells) (λ i. get_or sizes i 0)) n =
       upto-ext (λ i. weight (λ d. d.minimum) (single_at demands growing_cells sizes i)) (outside (outermost growing_cells) (λ i. get_or sizes i 0)) n single-minimum in
       let inside : AllByRecursion (λ d. end_of d ≤ n) (outermost growing_cells) = ByRecursion-weaker (IsInTable n) (λ d. end_of d ≤ n) (λ d t. t.ends_within) (outermost growing_cells) g.table in
       let p : upto (λ i. get_or sizes i 0) n ≡ sum_by (within (λ i. get_or sizes i 0)) (outermost growing_cells) + upto (outside (outermost growing_cells) (λ i. get_or sizes i 0)) n =
       partition (λ i. get_or sizes i 0) n (outermost growing_cells) inside g.disjoint in
-      let t : sum_by (λ d. d.minimum) (outermost growing_cells) ≡ sum_by (within (λ i. get_or sizes i 0)) (outermost growing_cells) + sum_by (inner_lines line) (outermost growing_cells) =
-      sum-tight line sizes (outermost growing_cells) g.tight in
       let s : sum sizes ≡ upto (λ i. get_or sizes i 0) (length sizes) = sum-upto sizes in
       let s' : upto (λ i. get_or sizes i 0) (length sizes) ≡ upto (λ i. get_or sizes i 0) n = ap (upto (λ i. get_or sizes i 0)) g.many in
-      omega arith
+      omega (arith, sum-certificate_cells (inner_lines line), sum-tight line sizes (outermost growing_cells) g.tight)
 
   pub certificate_of_growing_cells : IsCertificate (problem_of_demands line n demands) sizes (certificate_cells n demands growing_cells sizes)
   certificate_of_growing_cells = record {
@@ -276,8 +249,7 @@ growing_cells_are line n demands by_span table takes laminar =
 -- the cells of the certificate certify the sizes
 pub certificate_of : (line : ℕ → Bool) (n : ℕ) (demands by_span : List Demand) → All (IsInTable n) demands → TakesAll demands by_span → IsLaminarInOrder by_span →
     IsCertificate (problem_of_demands line n demands) (sizes_after line n demands by_span) (certificate_cells n demands (growing_demands line (base_sizes n demands) by_span) (sizes_after line n demands by_span))
-certificate_of line n demands by_span table takes laminar =
-    certificate_of_growing_cells line n demands (growing_demands line (base_sizes n demands) by_span) (sizes_after line n demands by_span) (growing_cells_are line n demands by_span table takes laminar)
+certificate_of line n demands by_span table takes laminar = search (rules, certificate_of_growing_cells, sizes_after, growing_cells_are, table)
 
 -- so the sizes are least
 pub IsLeast-sizes_after : (line : ℕ → Bool) (n : ℕ) (demands by_span : List Demand) → All (IsInTable n) demands → TakesAll demands by_span → IsLaminarInOrder by_span →

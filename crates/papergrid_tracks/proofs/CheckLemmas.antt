@@ -1,5 +1,5 @@
 -- What a checker goes by: its sums over the listed cells, and the certificate that they make.
-use Rattle.std.proofs.Common.{◌≡◌, ℕ, zero, suc, ◌+◌, ◌-◌, ◌*◌, ◌<◌, ◌≤◌, Bool, true, false, cond, inl, inr, List, [], ◌∷◌, ◌++◌, length, count_by, drop, drop-cons, get_or, refl, subst, sum, sym, take, ap, ◌∙◌, arith}
+use Rattle.std.proofs.Common.{◌≡◌, ℕ, zero, suc, ◌+◌, ◌-◌, ◌*◌, ◌<◌, ◌≤◌, Bool, true, false, cond, inl, inr, List, [], ◌∷◌, ◌++◌, length, count_by, drop, drop-cons, get_or, refl, sum, sym, take, ap, ◌∙◌, arith}
 use Rattle.std.specs.Prelude.{All}
 use Rattle.std.specs.List.{AllByRecursion, range_with_len}
 use Rattle.std.proofs.lemmas.Bool.{cases_Bool, true≢false, false≢true}
@@ -17,16 +17,7 @@ use Rattle.papergrid_tracks.proofs.LoopLemmas.{range_with_len-append}
 
 -- one more number
 pub count_by-more : (line : ℕ → Bool) (s i : ℕ) → s ≤ i → count_by line (range_with_len s (i + 1 - s)) ≡ count_by line (range_with_len s (i - s)) + cond (line i) 1 0
-count_by-more line s i le =
-    let e : i + 1 - s ≡ i - s + 1 = omega arith in
-    let at : s + (i - s) ≡ i = omega arith in
-    let a : count_by line (range_with_len s (i + 1 - s)) ≡ count_by line (range_with_len s (i - s) ++ range_with_len (s + (i - s)) 1) =
-    ap (λ k. count_by line (range_with_len s k)) e ∙ ap (count_by line) (range_with_len-append s (i - s) 1) in
-    let b : count_by line (range_with_len s (i - s) ++ range_with_len (s + (i - s)) 1) ≡ count_by line (range_with_len s (i - s)) + count_by line (range_with_len (s + (i - s)) 1) =
-    sum_by-append (λ j. cond (line j) 1 0) (range_with_len s (i - s)) (range_with_len (s + (i - s)) 1) in
-    let o : count_by line (range_with_len (s + (i - s)) 1) ≡ count_by line (range_with_len i 1) = ap (λ k. count_by line (range_with_len k 1)) at in
-    let p : count_by line (range_with_len i 1) ≡ cond (line i) 1 0 + 0 = sum_by-cons (λ j. cond (line j) 1 0) i [] in
-    omega arith
+count_by-more line s i le = grind (arith, range_with_len-append, sum_by-append, sum_by-cons)
 
 pub count_by-agree : (f g : ℕ → Bool) (a m : ℕ) → ((i : ℕ) → a ≤ i → i < a + m → f i ≡ g i) → count_by f (range_with_len a m) ≡ count_by g (range_with_len a m)
 count_by-agree f g a zero same = refl
@@ -39,10 +30,7 @@ count_by-agree f g a (suc m) same =
 -- ---- one more cell
 
 all_listed_push : (f : Demand → ℕ) (positions : List Position) (ds : List Demand) (d : Demand) → all_listed f positions (ds ++ d ∷ []) ≡ all_listed f positions ds + f d * times_listed positions d
-all_listed_push f positions ds d =
-    let a : all_listed f positions (ds ++ d ∷ []) ≡ all_listed f positions ds + all_listed f positions (d ∷ []) = sum_by-append (λ e. f e * times_listed positions e) ds (d ∷ []) in
-    let b : all_listed f positions (d ∷ []) ≡ f d * times_listed positions d + 0 = sum_by-cons (λ e. f e * times_listed positions e) d [] in
-    omega arith
+all_listed_push f positions ds d = grind (arith, sum_by-append, sum_by-cons)
 
 All_push : (P : Demand → Type 0) (ds : List Demand) (d : Demand) → All P ds → P d → All P (ds ++ d ∷ [])
 All_push P ds d all p = All-append P ds (d ∷ []) all (All-cons P d [] p (All-nil P))
@@ -116,14 +104,6 @@ module _ (line : ℕ → Bool) (sizes : List ℕ) (positions : List Position) (d
   pub none_room : (end_of d ≤ length sizes → HasRoom line sizes d → ⊥) → CanHold line sizes positions (ds ++ d ∷ []) → ⊥
   none_room none can = none (All-front (λ e. end_of e ≤ length sizes) ds d can.table).1 (All-front (HasRoom line sizes) ds d can.room).1
 
-  -- because too many are listed
-  pub too_many : old.holds ≡ true → length positions < old.found + times_listed positions d → CanHold line sizes positions (ds ++ d ∷ []) → ⊥
-  too_many so many can =
-      let e : all_listed (λ _. 1) positions (ds ++ d ∷ []) ≡ all_listed (λ _. 1) positions ds + 1 * times_listed positions d = all_listed_push (λ _. 1) positions ds d in
-      let found : old.found ≡ all_listed (λ _. 1) positions ds = (h.holds so).found in
-      let few : all_listed (λ _. 1) positions (ds ++ d ∷ []) ≤ length positions = can.few in
-      omega arith
-
 count_by-le : (line : ℕ → Bool) (a m : ℕ) → count_by line (range_with_len a m) ≤ m
 count_by-le line a zero = omega arith
 count_by-le line a (suc m) =
@@ -154,9 +134,4 @@ first_of_range sizes d one l = go d.span one
 -- what is listed no time changes nothing
 pub none_listed : (checked : Checked) (minimum inner times : ℕ) → checked.holds ≡ true → times ≡ 0 →
     record { holds = true; found = checked.found + times; minimums = checked.minimums + minimum * times; inner = checked.inner + inner * times } ≡ checked
-none_listed checked minimum inner times so none =
-    let found : checked.found + 0 ≡ checked.found = omega arith in
-    let minimums : checked.minimums + minimum * 0 ≡ checked.minimums = omega arith in
-    let inners : checked.inner + inner * 0 ≡ checked.inner = omega arith in
-    subst (λ t. record { holds = true; found = checked.found + t; minimums = checked.minimums + minimum * t; inner = checked.inner + inner * t } ≡ checked) (sym none)
-    (λ i. record { holds = sym so i; found = found i; minimums = minimums i; inner = inners i })
+none_listed checked minimum inner times so none = grind arith

@@ -1,5 +1,5 @@
 -- Sums over lists that are made by `filter_map` and `find`.
-use Rattle.std.proofs.Common.{◌≡◌, ℕ, zero, suc, ◌+◌, ◌<◌, ◌≤◌, ◌≢◌, max, Bool, true, false, cond, ◌&&◌, ◌==◌, inl, inr, List, [], ◌∷◌, sum_by, refl, ap, ◌∙◌, arith, eqb, eq-eqb, ne_eqb, Option, Some, None, subst}
+use Rattle.std.proofs.Common.{◌≡◌, ℕ, zero, suc, ◌+◌, ◌<◌, ◌≤◌, ◌≢◌, max, Bool, true, false, cond, ◌&&◌, ◌==◌, inl, inr, List, [], ◌∷◌, sum_by, refl, ap, arith, eqb, eq-eqb, ne_eqb, Option, Some, None, subst}
 use Rattle.std.specs.Prelude.{find, filter_map}
 use Rattle.std.specs.List.{AllByRecursion, range_with_len, cons_option}
 use Rattle.std.proofs.lemmas.Bool.{cases_Bool, cases_eq, and_from, and_left, and_right}
@@ -32,8 +32,7 @@ sum_by-filter_map_from w h a (suc n) =
     omega arith
 
 pub sum_by-filter_map : (w : Demand → ℕ) (h : ℕ → Option Demand) (n : ℕ) → sum_by w (filter_map h (range_with_len 0 n)) ≡ upto (λ i. weight w (h i)) n
-sum_by-filter_map w h n =
-    sum_by-filter_map_from w h 0 n ∙ upto-ext (λ i. weight w (h (0 + i))) (λ i. weight w (h i)) n (λ i l. ap (λ k. weight w (h k)) (let e : 0 + i ≡ i = omega arith in e))
+sum_by-filter_map w h n = grind (arith, sum_by-filter_map_from, upto-ext)
 
 -- what holds of each cell found holds of the list made of them
 pub filter_map-all : (P : Demand → Type 0) (h : ℕ → Option Demand) (is : List ℕ) → ((i : ℕ) (d : Demand) → h i ≡ Some d → P d) → AllByRecursion P (filter_map h is)
@@ -73,10 +72,8 @@ find-all P test [] d all e = absurd (none_some e)
     none_some e = cc
 find-all P test (x ∷ ds) d all e = elim (cases_Bool (test x)) [
   | inl t ↦
-      let e' : Some x ≡ Some d = rw t at e in
       let same : x ≡ d = cc in
-      let Q : Demand → Type 0 = λ y. (test y ≡ true) × P y in
-      subst Q same (t, all.0)
+      subst (λ y. (test y ≡ true) × P y) same (t, all.0)
   | inr f ↦ find-all P test ds d all.1 (rw f at e)
 ]
 
@@ -89,22 +86,17 @@ pub upto-single : (s v n : ℕ) → s < n → upto (λ i. cond (eqb s i) v 0) n 
 upto-single s v zero l = absurd (omega arith)
 upto-single s v (suc n) l = elim (cases_eq s n) [
   | inl e ↦
-      let z : upto (λ i. cond (eqb s i) v 0) n ≡ 0 =
-      upto-zero (λ i. cond (eqb s i) v 0) n (λ i l'. let ne : s ≢ i = omega arith in rw (ne_eqb s i ne) refl) in
+      let z = upto-zero (λ i. cond (eqb s i) v 0) n (λ i l'. let ne : s ≢ i = omega arith in rw (ne_eqb s i ne) refl) in
       rw (eq-eqb s n e) (omega arith)
   | inr ne ↦
-      let ih : upto (λ i. cond (eqb s i) v 0) n ≡ v = upto-single s v n (omega arith) in
-      rw (ne_eqb s n ne) (omega arith)
+      rw (ne_eqb s n ne) (omega (arith, upto-single s v n (omega arith)))
 ]
 
 -- disjoint cells that cover something start at different numbers
 starts_differ : (d : Demand) (ds : List Demand) (i : ℕ) → 1 ≤ d.span → AllByRecursion (λ e. 1 ≤ e.span) ds → AllByRecursion (AreDisjoint d) ds → d.start ≡ i →
     AllByRecursion (λ e. eqb e.start i ≡ false) ds
 starts_differ d [] i one ones disjoint e = tt
-starts_differ d (c ∷ ds) i one ones disjoint e =
-    let one' : 1 ≤ c.span = ones.0 in
-    let ne : c.start ≢ i = elim disjoint.0 [ inl x ↦ omega arith | inr x ↦ omega arith ] in
-    (ne_eqb c.start i ne, starts_differ d ds i one ones.1 disjoint.1 e)
+starts_differ d (c ∷ ds) i one ones disjoint e = grind (arith, starts_differ d ds i one ones.1 disjoint.1 e)
 
 -- each of the cells is found at its start
 pub sum-by_start : (w : Demand → ℕ) (n : ℕ) (ds : List Demand) → AllByRecursion (λ d. 1 ≤ d.span) ds → AllByRecursion (λ d. d.start < n) ds → ArePairwiseDisjoint ds →
@@ -114,12 +106,8 @@ sum-by_start w n (d ∷ ds) ones inside disjoint =
     let each : (i : ℕ) → i < n → weight w (find (λ e. e.start == i) (d ∷ ds)) ≡ cond (eqb d.start i) (w d) 0 + weight w (find (λ e. e.start == i) ds) = λ i l. at i in
     let a : upto (λ i. weight w (find (λ e. e.start == i) (d ∷ ds))) n ≡ upto (λ i. cond (eqb d.start i) (w d) 0 + weight w (find (λ e. e.start == i) ds)) n =
     upto-ext (λ i. weight w (find (λ e. e.start == i) (d ∷ ds))) (λ i. cond (eqb d.start i) (w d) 0 + weight w (find (λ e. e.start == i) ds)) n each in
-    let b : upto (λ i. cond (eqb d.start i) (w d) 0 + weight w (find (λ e. e.start == i) ds)) n ≡ upto (λ i. cond (eqb d.start i) (w d) 0) n + upto (λ i. weight w (find (λ e. e.start == i) ds)) n =
-    upto-add (λ i. cond (eqb d.start i) (w d) 0) (λ i. weight w (find (λ e. e.start == i) ds)) n in
-    let c : upto (λ i. cond (eqb d.start i) (w d) 0) n ≡ w d = upto-single d.start (w d) n inside.0 in
-    let ih : upto (λ i. weight w (find (λ e. e.start == i) ds)) n ≡ sum_by w ds = sum-by_start w n ds ones.1 inside.1 disjoint.1 in
-    let s : sum_by w (d ∷ ds) ≡ w d + sum_by w ds = sum_by-cons w d ds in
-    omega arith
+    let b = upto-add (λ i. cond (eqb d.start i) (w d) 0) (λ i. weight w (find (λ e. e.start == i) ds)) n in
+    omega (arith, upto-single d.start (w d) n inside.0, sum-by_start w n ds ones.1 inside.1 disjoint.1, sum_by-cons w d ds)
   where
     at : (i : ℕ) → weight w (find (λ e. e.start == i) (d ∷ ds)) ≡ cond (eqb d.start i) (w d) 0 + weight w (find (λ e. e.start == i) ds)
     at i = elim (cases_eq d.start i) [
@@ -135,14 +123,12 @@ pub find-greatest : (test : Demand → Bool) (ds : List Demand) (v : ℕ) → 0 
 find-greatest test [] v positive e = absurd (omega arith)
 find-greatest test (d ∷ ds) v positive e = elim (cases_Bool (test d)) [
   | inr f ↦
-      let e' : greatest_minimum test ds ≡ v = rw f at e in
-      rw (and_left (test d) (eqb d.minimum v) f) (find-greatest test ds v positive e')
+      rw (and_left (test d) (eqb d.minimum v) f) (find-greatest test ds v positive (rw f at e))
   | inl t ↦
       let e' : max d.minimum (greatest_minimum test ds) ≡ v = rw t at e in
       elim (cases_eq d.minimum v) [
         | inl same ↦ rw (and_from (test d) (eqb d.minimum v) t (eq-eqb d.minimum v same)) (d, refl)
         | inr ne ↦
-            let e'' : greatest_minimum test ds ≡ v = omega arith in
-            rw (and_right (test d) (eqb d.minimum v) (ne_eqb d.minimum v ne)) (find-greatest test ds v positive e'')
+            rw (and_right (test d) (eqb d.minimum v) (ne_eqb d.minimum v ne)) (find-greatest test ds v positive (omega arith))
       ]
 ]

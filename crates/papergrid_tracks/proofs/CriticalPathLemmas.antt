@@ -1,5 +1,5 @@
 -- The cells that are tight at the lowest positions of the boundaries are a certificate of the least total.
-use Rattle.std.proofs.Common.{◌≡◌, ℕ, zero, suc, ◌+◌, ◌-◌, ◌<◌, ◌≤◌, ◌≢◌, max, Bool, true, false, ◌&&◌, ◌==◌, inl, inr, List, [], ◌∷◌, length, get_or, sum, sum_by, refl, sym, ◌∙◌, arith, Option, Some, None, eqb, eqb-true, eq-eqb, ne_eqb}
+use Rattle.std.proofs.Common.{◌≡◌, ℕ, zero, suc, ◌+◌, ◌-◌, ◌<◌, ◌≤◌, ◌≢◌, max, Bool, true, false, ◌&&◌, ◌==◌, inl, inr, List, [], ◌∷◌, length, get_or, sum, sum_by, refl, sym, ◌∙◌, arith, Option, Some, None, eqb-true, eq-eqb, ne_eqb}
 use Rattle.std.specs.Prelude.{All, AllPairs, Contains, find, if◌then◌else◌, reverse}
 use Rattle.std.specs.List.{AllByRecursion}
 use Rattle.std.proofs.lemmas.Bool.{cases_Bool, cases_eq, and_parts, and_from, true≢false}
@@ -60,10 +60,7 @@ module _ (asks : Demand → ℕ) (ds : List Demand) (n : ℕ) (table : All (IsIn
     pub is_tight : lowest_position asks ds d.start + asks d ≡ lowest_position asks ds (suc i)
 
   IsTight-from : (i : ℕ) (d : Demand) → Contains ds d → is_tight asks (lowest_position asks ds) (suc i) d ≡ true → IsTight i d
-  IsTight-from i d listed e =
-      let parts : (eqb (end_of d) (suc i) ≡ true) × (eqb (lowest_position asks ds d.start + asks d) (lowest_position asks ds (suc i)) ≡ true) =
-      and_parts (eqb (end_of d) (suc i)) (eqb (lowest_position asks ds d.start + asks d) (lowest_position asks ds (suc i))) e in
-      record { listed = listed; ends = eqb-true _ _ parts.0; is_tight = eqb-true _ _ parts.1 }
+  IsTight-from i d listed e = grind (arith, lowest_position, and_parts, eqb-true)
 
   pub tight_cell-is_tight : (i : ℕ) (d : Demand) → tight_cell asks ds (suc i) ≡ Some d → IsTight i d
   tight_cell-is_tight i d e =
@@ -95,18 +92,13 @@ module _ (asks : Demand → ℕ) (ds : List Demand) (n : ℕ) (table : All (IsIn
           let b : lowest_position_to asks ds i (get_or ds k d).start ≡ lowest_position asks ds (get_or ds k d).start = lowest_position_to-is asks ds i (get_or ds k d).start (omega arith) in
           elim (cases_eq (lowest_position asks ds (get_or ds k d).start + asks (get_or ds k d)) (lowest_position asks ds (suc i))) [
             | inl same ↦ absurd (true≢false (sym (and_from _ _ (eq-eqb _ _ ends) (eq-eqb _ _ same)) ∙ no_push))
-            | inr ne ↦
-                let ne' : lowest_position asks ds (get_or ds k d).start + asks (get_or ds k d) ≢ lowest_position asks ds (suc i) = ne in
-                omega arith
+            | inr ne ↦ grind (arith, lowest_position)
           ]
 
   Reaches-step : (i : ℕ) (d : Demand) (cells : List Demand) → lowest_position asks ds i < lowest_position asks ds (suc i) → IsTight i d → IsInTable n d → Reaches asks ds d.start cells →
       Reaches asks ds (suc i) (d ∷ cells)
   Reaches-step i d cells past is_tight cell reaches =
-      let one : 1 ≤ d.span = cell.covers_one in
-      let ends : d.start + d.span ≡ suc i = is_tight.ends in
       let le : lowest_position asks ds d.start ≤ lowest_position asks ds i = lowest_position-monotone asks ds d.start i (omega arith) in
-      let p : lowest_position asks ds d.start + asks d ≡ lowest_position asks ds (suc i) = is_tight.is_tight in
       let a : sum_by asks (d ∷ cells) ≡ asks d + sum_by asks cells = sum_by-cons asks d cells in
       let b : sum_by asks cells ≡ lowest_position asks ds d.start = reaches.adds_up in
       record {
@@ -159,12 +151,8 @@ module _ (asks : Demand → ℕ) (ds : List Demand) (n : ℕ) (table : All (IsIn
 minimums-add_up : (line : ℕ → Bool) (ds : List Demand) → AllByRecursion (λ d. 1 ≤ net_minimum line d) ds → sum_by (λ d. d.minimum) ds ≡ sum_by (net_minimum line) ds + sum_by (inner_lines line) ds
 minimums-add_up line [] asking = refl
 minimums-add_up line (d ∷ ds) asking =
-    let ih : sum_by (λ d. d.minimum) ds ≡ sum_by (net_minimum line) ds + sum_by (inner_lines line) ds = minimums-add_up line ds asking.1 in
     let a : sum_by (λ d. d.minimum) (d ∷ ds) ≡ d.minimum + sum_by (λ d. d.minimum) ds = sum_by-cons (λ d. d.minimum) d ds in
-    let b : sum_by (net_minimum line) (d ∷ ds) ≡ net_minimum line d + sum_by (net_minimum line) ds = sum_by-cons (net_minimum line) d ds in
-    let c : sum_by (inner_lines line) (d ∷ ds) ≡ inner_lines line d + sum_by (inner_lines line) ds = sum_by-cons (inner_lines line) d ds in
-    let one : 1 ≤ net_minimum line d = asking.0 in
-    omega arith
+    omega (arith, minimums-add_up line ds asking.1, sum_by-cons (net_minimum line) d ds, sum_by-cons (inner_lines line) d ds)
 
 disjoint-reversed : (cells : List Demand) → AllPairs AreDisjoint cells → AllPairs AreDisjoint (reverse cells)
 disjoint-reversed cells disjoint i j d l l' =
@@ -172,18 +160,13 @@ disjoint-reversed cells disjoint i j d l l' =
     rw (get_or-reverse cells i d (omega arith), get_or-reverse cells j d (omega arith)) (swapped (get_or cells (length cells - 1 - j) d) (get_or cells (length cells - 1 - i) d) (disjoint (length cells - 1 - j) (length cells - 1 - i) d (omega arith) (omega arith)))
   where
     swapped : (a b : Demand) → AreDisjoint a b → AreDisjoint b a
-    swapped a b disjoint' = elim disjoint' [
-      | inl before ↦ inr before
-      | inr after ↦ inl after
-    ]
+    swapped a b disjoint' = grind arith
 
 pub IsCertificate-critical_path : (line : ℕ → Bool) (n : ℕ) (demands : List Demand) (sizes : List ℕ) → All (IsInTable n) demands → sum sizes ≡ lowest_position (net_minimum line) demands n →
     IsCertificate (problem_of_demands line n demands) sizes (critical_path (problem_of_demands line n demands))
 IsCertificate-critical_path line n demands sizes table total =
     let moved = IsPermutation-reverse (tight_cells (net_minimum line) demands n n) in
     let reaches : Reaches (net_minimum line) demands n (tight_cells (net_minimum line) demands n n) = Reaches-tight_cells (net_minimum line) demands n table n n (omega arith) in
-    let a : sum_by (λ d. d.minimum) (tight_cells (net_minimum line) demands n n) ≡ sum_by (net_minimum line) (tight_cells (net_minimum line) demands n n) + sum_by (inner_lines line) (tight_cells (net_minimum line) demands n n) =
-    minimums-add_up line (tight_cells (net_minimum line) demands n n) reaches.asking in
     let b : sum_by (net_minimum line) (tight_cells (net_minimum line) demands n n) ≡ lowest_position (net_minimum line) demands n = reaches.adds_up in
     let c : sum_by (λ d. d.minimum) (critical_path (problem_of_demands line n demands)) ≡ sum_by (λ d. d.minimum) (tight_cells (net_minimum line) demands n n) =
     sum_by-IsPermutation (λ d. d.minimum) (tight_cells (net_minimum line) demands n n) (critical_path (problem_of_demands line n demands)) moved in
@@ -192,5 +175,5 @@ IsCertificate-critical_path line n demands sizes table total =
     record {
       visible = All-permutation (Contains demands) (tight_cells (net_minimum line) demands n n) (critical_path (problem_of_demands line n demands)) moved (All-from_recursion (Contains demands) (tight_cells (net_minimum line) demands n n) reaches.visible);
       disjoint = disjoint-reversed (tight_cells (net_minimum line) demands n n) (AllPairs-from_pairwise (tight_cells (net_minimum line) demands n n) reaches.disjoint);
-      adds_up = omega arith;
+      adds_up = omega (arith, minimums-add_up line (tight_cells (net_minimum line) demands n n) reaches.asking);
     }

@@ -1,5 +1,5 @@
 -- What is kept of the demands tells all that is asked of them.
-use Rattle.std.proofs.Common.{◌≡◌, ℕ, zero, suc, ◌+◌, ◌-◌, ◌<◌, ◌≤◌, ◌≢◌, ◌^◌, max, Bool, true, false, ◌&&◌, ◌||◌, ◌==◌, inl, inr, List, [], ◌∷◌, ◌++◌, length, get_or, filter, map, fold, refl, sym, subst, ap, ap₂, ◌∙◌, arith, eqb, eq-eqb, ne_eqb, eqb-true, ltb, lt-ltb, le-ltb, ltb-true}
+use Rattle.std.proofs.Common.{◌≡◌, ℕ, zero, suc, ◌+◌, ◌-◌, ◌<◌, ◌≤◌, ◌≢◌, ◌^◌, max, Bool, true, false, ◌&&◌, ◌||◌, ◌==◌, inl, inr, List, [], ◌∷◌, ◌++◌, length, get_or, filter, map, fold, refl, sym, subst, ap, ◌∙◌, arith, eqb, eq-eqb, ne_eqb, eqb-true, ltb, lt-ltb, le-ltb, ltb-true}
 use Rattle.std.specs.Prelude.{All, Some, find, flat_map, if◌then◌else◌, nat_lt, not}
 use Rattle.std.specs.List.{list_any, range_with_len}
 use Rattle.std.proofs.lemmas.Bool.{and_from, and_parts, cases_Bool, cases_lt, lt-leb, true≢false}
@@ -26,17 +26,14 @@ kept-stays i kept (d ∷ ds) le = elim (cases_Bool (eqb d.span 1 && eqb d.start 
       let le' : max d.minimum (base_size ds i) ≤ kept.minimum = rw t at le in
       rw (t, le-ltb kept.minimum d.minimum (omega arith)) (kept-stays i kept ds (omega arith))
   | inr f ↦
-      let le' : base_size ds i ≤ kept.minimum = rw f at le in
-      rw f (kept-stays i kept ds le')
+      rw f (kept-stays i kept ds (rw f at le))
 ]
 
 -- one cell on, by what is kept then
 first_skip : (i : ℕ) (kept next d : Demand) (ds : List Demand) (m : ℕ) → gathered_for i kept d ≡ next →
     (find (λ d. d.span == 1 && d.start == i && d.minimum == m) ds ≡ Some (fold (gathered_for i) next ds)) × ((fold (gathered_for i) next ds).minimum ≡ m) →
     (find (λ d. d.span == 1 && d.start == i && d.minimum == m) ds ≡ Some (fold (gathered_for i) kept (d ∷ ds))) × ((fold (gathered_for i) kept (d ∷ ds)).minimum ≡ m)
-first_skip i kept next d ds m step rest =
-    let same : fold (gathered_for i) kept (d ∷ ds) ≡ fold (gathered_for i) next ds = ap (λ k. fold (gathered_for i) k ds) step in
-    (rest.0 ∙ ap Some (sym same), ap (λ (k : Demand). k.minimum) same ∙ rest.1)
+first_skip i kept next d ds m step rest = grind arith
 
 -- else the first cell of greatest minimum size is kept
 kept-first : (i : ℕ) (kept : Demand) (ds : List Demand) (m : ℕ) → base_size ds i ≡ m → kept.minimum < m →
@@ -61,18 +58,13 @@ kept-first i kept (d ∷ ds) m e lt = elim (cases_Bool (eqb d.span 1 && eqb d.st
             ]
         | inr most ↦
             let same : d.minimum ≡ m = omega arith in
-            let more : kept.minimum < d.minimum = omega arith in
-            let hit : find (λ d. d.span == 1 && d.start == i && d.minimum == m) (d ∷ ds) ≡ Some d = rw (t, eq-eqb d.minimum m same) refl in
-            let step : gathered_for i kept d ≡ d = rw (t, lt-ltb kept.minimum d.minimum more) refl in
+            let step : gathered_for i kept d ≡ d = rw (t, lt-ltb kept.minimum d.minimum (omega arith)) refl in
             let all : fold (gathered_for i) (gathered_for i kept d) ds ≡ d = ap (λ k. fold (gathered_for i) k ds) step ∙ kept-stays i d ds (omega arith) in
-            (hit ∙ ap Some (sym all), ap (λ (k : Demand). k.minimum) all ∙ same)
+            ((rw (t, eq-eqb d.minimum m same) refl) ∙ ap Some (sym all), ap (λ (k : Demand). k.minimum) all ∙ same)
       ]
   | inr f ↦
-      let e' : base_size ds i ≡ m = rw f at e in
-      let skip : find (λ d. d.span == 1 && d.start == i && d.minimum == m) (d ∷ ds) ≡ find (λ d. d.span == 1 && d.start == i && d.minimum == m) ds = rw f refl in
-      let step : gathered_for i kept d ≡ kept = rw f refl in
-      let rest = first_skip i kept kept d ds m step (kept-first i kept ds m e' lt) in
-      (skip ∙ rest.0, rest.1)
+      let rest = first_skip i kept kept d ds m (rw f refl) (kept-first i kept ds m (rw f at e) lt) in
+      ((rw f refl) ∙ rest.0, rest.1)
 ]
 
 -- what is kept cell by cell is the first of greatest minimum size
@@ -80,11 +72,9 @@ kept-is_first : (i : ℕ) (ds : List Demand) → fold (gathered_for i) no_demand
 unfolding first_greatest
 kept-is_first i ds = elim (cases_lt 0 (base_size ds i)) [
   | inl some ↦
-      let other : (base_size ds i == 0) ≡ false = ne_eqb (base_size ds i) 0 (omega arith) in
-      rw (other, (kept-first i no_demand ds (base_size ds i) refl some).0) refl
+      rw ((ne_eqb (base_size ds i) 0 (omega arith)), (kept-first i no_demand ds (base_size ds i) refl some).0) refl
   | inr none ↦
-      let zero : (base_size ds i == 0) ≡ true = eq-eqb (base_size ds i) 0 (omega arith) in
-      rw zero (kept-stays i no_demand ds none)
+      rw (eq-eqb (base_size ds i) 0 (omega arith)) (kept-stays i no_demand ds none)
 ]
 
 pub first_greatest_nil : (i : ℕ) → first_greatest i [] ≡ no_demand
@@ -124,33 +114,19 @@ first_out-rest_of n limit (d ∷ ds) below =
     elim (cases_Bool (is_single limit d)) [
       | inl t ↦
           let inside : d.start < n = All-head (λ d. is_single limit d ≡ true → d.start < n) d ds below t in
-          let one : d.span ≡ 1 = eqb-true d.span 1 (and_parts (eqb d.span 1) (ltb d.start limit) t).0 in
-          let within : d.start + d.span ≤ n = omega arith in
-          rw (t, le-ltb n (end_of d) within) rest
+          rw (t, le-ltb n (end_of d) (omega (arith, eqb-true d.span 1 (and_parts (eqb d.span 1) (ltb d.start limit) t).0))) rest
       | inr f ↦ rw f (ap (λ r. if nat_lt n (end_of d) then Some (position_of d) else r) rest)
     ]
 
 -- a test that a single cell fails finds the same cells among the others
 filter-rest_of : (test : Demand → Bool) (limit : ℕ) (ds : List Demand) → ((d : Demand) → d.span ≡ 1 → test d ≡ false) → filter test (rest_of limit ds) ≡ filter test ds
 filter-rest_of test limit [] fails = refl
-filter-rest_of test limit (d ∷ ds) fails =
-    let rest = filter-rest_of test limit ds fails in
-    elim (cases_Bool (is_single limit d)) [
-      | inl t ↦
-          let one : d.span ≡ 1 = eqb-true d.span 1 (and_parts (eqb d.span 1) (ltb d.start limit) t).0 in
-          rw (t, fails d one) rest
-      | inr f ↦ elim (cases_Bool (test d)) [
-        | inl y ↦ rw (f, y) (ap (λ xs. d ∷ xs) rest)
-        | inr y ↦ rw (f, y) rest
-      ]
-    ]
+filter-rest_of test limit (d ∷ ds) fails = grind (arith, cases_Bool, eqb-true, and_parts, filter-rest_of test limit ds fails)
 
 spans-rest_of : (limit : ℕ) (ds : List Demand) (a m : ℕ) → 2 ≤ a →
     flat_map (λ span. filter (λ d. d.span == span) (rest_of limit ds)) (range_with_len a m) ≡ flat_map (λ span. filter (λ d. d.span == span) ds) (range_with_len a m)
 spans-rest_of limit ds a zero two = refl
-spans-rest_of limit ds a (suc m) two =
-    ap₂ (λ xs ys. xs ++ ys) (filter-rest_of (λ d. d.span == a) limit ds (λ d one. let ne : d.span ≢ a = omega arith in ne_eqb d.span a ne))
-    (spans-rest_of limit ds (a + 1) m (omega arith))
+spans-rest_of limit ds a (suc m) two = grind (arith, filter-rest_of, spans-rest_of limit ds (a + 1) m (omega arith))
 
 pub by_span-rest_of : (n limit : ℕ) (ds : List Demand) → by_span n (rest_of limit ds) ≡ by_span n ds
 by_span-rest_of n limit ds = spans-rest_of limit ds 2 (n - 1) (omega arith)
@@ -163,13 +139,7 @@ table-rest_of n limit ds table = All-filter (λ d. not (is_single limit d)) (IsI
 -- a cell that covers a track alone and needs no more than the one that is kept there changes nothing
 pub gathered_for-met : (single_span : List Demand) (d : Demand) → d.minimum ≤ (get_or single_span d.start no_demand).minimum → (k : ℕ) →
     get_or single_span k no_demand ≡ gathered_for k (get_or single_span k no_demand) d
-gathered_for-met single_span d met k = elim (cases_Bool (eqb d.span 1 && eqb d.start k)) [
-  | inl t ↦
-      let at : d.start ≡ k = eqb-true d.start k (and_parts (eqb d.span 1) (eqb d.start k) t).1 in
-      let enough : d.minimum ≤ (get_or single_span k no_demand).minimum = subst (λ i. d.minimum ≤ (get_or single_span i no_demand).minimum) at met in
-      rw (t, le-ltb (get_or single_span k no_demand).minimum d.minimum enough) refl
-  | inr f ↦ rw f refl
-]
+gathered_for-met single_span d met k = grind (arith, cases_Bool, eqb-true, and_parts, le-ltb)
 
 rest_of-more : (limit : ℕ) (ds : List Demand) (d : Demand) → rest_of limit (ds ++ d ∷ []) ≡ rest_of limit ds ++ rest_of limit (d ∷ [])
 rest_of-more limit ds d = filter-append (λ d. not (is_single limit d)) ds (d ∷ [])
@@ -187,9 +157,7 @@ or_none false = refl
 module _ (limit : ℕ) (old new : Demands) (demands : List Demand) (d : Demand) (held : HoldsDemands limit old demands) (one : 1 ≤ d.span) (small : d.minimum < 2 ^ 64)
     (same_limit : new.limit ≡ old.limit) (same_large : new.is_large ≡ old.is_large) where
   large : new.is_large ≡ list_any is_large (demands ++ d ∷ [])
-  large =
-      let below : is_large d ≡ false = lt-leb (2 ^ 64) d.minimum small in
-      same_large ∙ held.large ∙ sym (list_any-append is_large demands (d ∷ []) ∙ rw below (or_none (list_any is_large demands)))
+  large = grind (arith, lt-leb, list_any-append, or_none)
 
   spans : All (λ e. 1 ≤ e.span) (demands ++ d ∷ [])
   spans = All-push (λ e. 1 ≤ e.span) demands d held.spans one
@@ -197,14 +165,7 @@ module _ (limit : ℕ) (old new : Demands) (demands : List Demand) (d : Demand) 
   -- one that covers a track alone, below the limit, is kept by its number
   pub Holds-single : is_single limit d ≡ true → new.rest.items ≡ old.rest.items →
       ((k : ℕ) → get_or new.single_span.items k no_demand ≡ gathered_for k (get_or old.single_span.items k no_demand) d) → HoldsDemands limit new (demands ++ d ∷ [])
-  Holds-single single same kept = record {
-    limit_is = same_limit ∙ held.limit_is;
-    ranges = ap (map without_minimum) same ∙ held.ranges ∙ ap (map without_minimum) (sym (rest_of-single limit demands d single));
-    large = large;
-    exact = λ h. same ∙ held.exact (sym same_large ∙ h) ∙ sym (rest_of-single limit demands d single);
-    single_span = λ h i l. kept i ∙ ap (λ k. gathered_for i k d) (held.single_span (sym same_large ∙ h) i l) ∙ sym (first_greatest_more i demands d);
-    spans = spans;
-  }
+  Holds-single single same kept = grind (arith, rest_of-single, large, first_greatest_more, spans)
 
   -- any other as it came
   pub Holds-other : is_single limit d ≡ false → new.rest.items ≡ old.rest.items ++ d ∷ [] → new.single_span.items ≡ old.single_span.items →
@@ -223,14 +184,7 @@ module _ (limit : ℕ) (old new : Demands) (demands : List Demand) (d : Demand) 
   }
     where
       elsewhere : (i : ℕ) → i < limit → gathered_for i (first_greatest i demands) d ≡ first_greatest i demands
-      elsewhere i l = elim (cases_Bool (eqb d.span 1 && eqb d.start i)) [
-        | inl t ↦
-            let parts = and_parts (eqb d.span 1) (eqb d.start i) t in
-            let at : d.start ≡ i = eqb-true d.start i parts.1 in
-            let single : is_single limit d ≡ true = and_from (eqb d.span 1) (ltb d.start limit) parts.0 (lt-ltb d.start limit (omega arith)) in
-            absurd (true≢false (sym single ∙ other))
-        | inr f ↦ rw f refl
-      ]
+      elsewhere i l = grind (arith, cases_Bool, and_parts, eqb-true, and_from, lt-ltb, true≢false)
 
 -- ---- what is kept of a table where no minimum size is large
 

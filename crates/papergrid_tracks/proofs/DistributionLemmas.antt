@@ -1,5 +1,5 @@
 -- The deficit of a cell fits in each size of its range.
-use Rattle.std.proofs.Common.{◌≡◌, ℕ, ◌+◌, ◌-◌, ◌<◌, ◌≤◌, Bool, List, get_or, sym, ap, arith}
+use Rattle.std.proofs.Common.{◌≡◌, ℕ, ◌+◌, ◌-◌, ◌<◌, ◌≤◌, Bool, List, get_or, ap, arith, rules}
 use Rattle.papergrid_tracks.specs.declared.demand.Demand.{Demand}
 use Rattle.papergrid_tracks.specs.Fits.{range_sum}
 use Rattle.papergrid_tracks.specs.Ranges.{end_of}
@@ -16,11 +16,8 @@ size-below_sum sizes d i from before =
     omega arith
 
 pub deficit-fits : (line : ℕ → Bool) (sizes : List ℕ) (d : Demand) (i limit : ℕ) → d.start ≤ i → i < end_of d → 0 < deficit line sizes d → d.minimum < limit → get_or sizes i 0 + deficit line sizes d < limit
-deficit-fits line sizes d i limit from before grows minimum =
-    let a : get_or sizes i 0 ≤ range_sum sizes d = size-below_sum sizes d i from before in
-    omega arith
+deficit-fits line sizes d i limit from before grows minimum = grind (arith, size-below_sum)
 
 -- a cell without a deficit leaves the sizes as they were
 pub grown-none : (line : ℕ → Bool) (sizes : List ℕ) (d : Demand) → 1 ≤ d.span → deficit line sizes d ≡ 0 → sizes ≡ grown_sizes line sizes d
-grown-none line sizes d one none =
-    same_number_lists sizes (grown_sizes line sizes d) (sym (length-grown line sizes d)) (λ k l. sym (grown_same line sizes d k one l none))
+grown-none line sizes d one none = search (rules, same_number_lists, length-grown, grown_same)

@@ -1,6 +1,6 @@
 -- Sizes by lines that were read up to the count.
-use Rattle.std.proofs.Common.{◌≡◌, ℕ, ◌+◌, ◌-◌, ◌≤◌, Bool, List, [], ◌∷◌, fold, refl, ap, ap₂, ◌∙◌, arith}
-use Rattle.std.specs.Prelude.{All, if◌then◌else◌, nat_lt}
+use Rattle.std.proofs.Common.{◌≡◌, ℕ, ◌+◌, ◌-◌, ◌≤◌, Bool, List, [], ◌∷◌, fold, refl, ap, ◌∙◌, arith}
+use Rattle.std.specs.Prelude.{All}
 use Rattle.std.specs.List.{AllByRecursion}
 use Rattle.std.proofs.lemmas.List.Elements.{recursion_from_All}
 use Rattle.papergrid_tracks.specs.declared.demand.Demand.{Demand}
@@ -18,8 +18,7 @@ module _ (drawn line : ℕ → Bool) (n : ℕ) (agree : (i : ℕ) → i ≤ n �
   lines-drawn = count_by-agree drawn line 0 (n + 1) (λ i l l'. agree i (omega arith))
 
   pub inner-drawn : (d : Demand) → IsInTable n d → inner_lines drawn d ≡ inner_lines line d
-  inner-drawn d inside =
-      count_by-agree drawn line (d.start + 1) (d.span - 1) (λ i l l'. agree i (omega (arith, inside.ends_within, inside.covers_one)))
+  inner-drawn d inside = grind (arith, count_by-agree)
 
   deficit-drawn : (sizes : List ℕ) (d : Demand) → IsInTable n d → deficit drawn sizes d ≡ deficit line sizes d
   deficit-drawn sizes d inside = ap (λ inner. d.minimum - (range_sum sizes d + inner)) (inner-drawn d inside)
@@ -34,9 +33,7 @@ module _ (drawn line : ℕ → Bool) (n : ℕ) (agree : (i : ℕ) → i ≤ n �
 
   growing-drawn : (sizes : List ℕ) (cells : List Demand) → AllByRecursion (IsInTable n) cells → growing_demands drawn sizes cells ≡ growing_demands line sizes cells
   growing-drawn sizes [] table = refl
-  growing-drawn sizes (d ∷ cells) table =
-      ap₂ (λ amount rest. if nat_lt 0 amount then d ∷ rest else rest) (deficit-drawn sizes d table.0)
-      (growing-drawn (grown_sizes drawn sizes d) cells table.1 ∙ ap (λ sizes. growing_demands line sizes cells) (grown-drawn sizes d table.0))
+  growing-drawn sizes (d ∷ cells) table = grind (arith, deficit-drawn, grown-drawn, growing-drawn (grown_sizes drawn sizes d) cells table.1)
 
   module _ (demands : List Demand) (table : All (IsInTable n) demands) where
     table-cells : AllByRecursion (IsInTable n) (by_span n demands)

@@ -1,5 +1,5 @@
 -- A certificate shows that no list that fits has a smaller total.
-use Rattle.std.proofs.Common.{◌≡◌, ℕ, ◌+◌, ◌≤◌, Bool, List, [], ◌∷◌, length, get_or, sum, sum_by, ap, arith}
+use Rattle.std.proofs.Common.{◌≡◌, ℕ, ◌+◌, ◌≤◌, Bool, List, [], ◌∷◌, length, get_or, sum, sum_by, ap, arith, rules}
 use Rattle.std.specs.Prelude.{All, Contains}
 use Rattle.std.specs.List.{AllByRecursion}
 use Rattle.std.proofs.lemmas.List.Sums.{sum_by-cons}
@@ -7,7 +7,7 @@ use Rattle.std.proofs.lemmas.List.Elements.{recursion_from_All, All-contains, Al
 use Rattle.papergrid_tracks.specs.Problem.{problem_of_demands}
 use Rattle.papergrid_tracks.specs.declared.demand.Demand.{Demand}
 use Rattle.papergrid_tracks.specs.Ranges.{end_of, inner_lines, IsInTable}
-use Rattle.papergrid_tracks.specs.Fits.{range_sum, HasRoom, Fits, IsLeast, IsCertificate}
+use Rattle.papergrid_tracks.specs.Fits.{HasRoom, Fits, IsLeast, IsCertificate}
 use Rattle.papergrid_tracks.proofs.Upto.{upto, sum-upto, within, range_sum-within}
 use Rattle.papergrid_tracks.proofs.RangeLemmas.{ArePairwiseDisjoint-from_AllPairs, partition, outside}
 
@@ -15,14 +15,9 @@ minimums_below : (line : ℕ → Bool) (sizes : List ℕ) (ds : List Demand) →
     sum_by (λ d. d.minimum) ds ≤ sum_by (within (λ i. get_or sizes i 0)) ds + sum_by (inner_lines line) ds
 minimums_below line sizes [] h = omega arith
 minimums_below line sizes (d ∷ ds) h =
-    let ih : sum_by (λ d. d.minimum) ds ≤ sum_by (within (λ i. get_or sizes i 0)) ds + sum_by (inner_lines line) ds = minimums_below line sizes ds h.1 in
     let a : sum_by (λ d. d.minimum) (d ∷ ds) ≡ d.minimum + sum_by (λ d. d.minimum) ds = sum_by-cons (λ d. d.minimum) d ds in
-    let b : sum_by (within (λ i. get_or sizes i 0)) (d ∷ ds) ≡ within (λ i. get_or sizes i 0) d + sum_by (within (λ i. get_or sizes i 0)) ds =
-    sum_by-cons (within (λ i. get_or sizes i 0)) d ds in
-    let c : sum_by (inner_lines line) (d ∷ ds) ≡ inner_lines line d + sum_by (inner_lines line) ds = sum_by-cons (inner_lines line) d ds in
-    let r : range_sum sizes d ≡ within (λ i. get_or sizes i 0) d = range_sum-within sizes d in
-    let room : d.minimum ≤ range_sum sizes d + inner_lines line d = h.0 in
-    omega arith
+    let b = sum_by-cons (within (λ i. get_or sizes i 0)) d ds in
+    omega (arith, minimums_below line sizes ds h.1, sum_by-cons (inner_lines line) d ds, range_sum-within sizes d, h.0)
 
 -- the total of a list that fits is at least that of the certificate
 pub total_bounds : (line : ℕ → Bool) (n : ℕ) (demands certificate_cells : List Demand) (sizes other : List ℕ) →
@@ -37,15 +32,10 @@ total_bounds line n demands certificate_cells sizes other table certificate fits
     (All-weaker (Contains demands) (HasRoom line other) (λ d m. All-contains (HasRoom line other) demands d fits.room m) certificate_cells certificate.visible) in
     let p : upto (λ i. get_or other i 0) n ≡ sum_by (within (λ i. get_or other i 0)) certificate_cells + upto (outside certificate_cells (λ i. get_or other i 0)) n =
     partition (λ i. get_or other i 0) n certificate_cells inside (ArePairwiseDisjoint-from_AllPairs certificate_cells certificate.disjoint) in
-    let b : sum_by (λ d. d.minimum) certificate_cells ≤ sum_by (within (λ i. get_or other i 0)) certificate_cells + sum_by (inner_lines line) certificate_cells =
-    minimums_below line other certificate_cells room in
-    let s : sum other ≡ upto (λ i. get_or other i 0) (length other) = sum-upto other in
     let s' : upto (λ i. get_or other i 0) (length other) ≡ upto (λ i. get_or other i 0) n = ap (upto (λ i. get_or other i 0)) fits.one_each in
-    let t : sum_by (λ d. d.minimum) certificate_cells ≡ sum sizes + sum_by (inner_lines line) certificate_cells = certificate.adds_up in
-    omega arith
+    omega (arith, minimums_below line other certificate_cells room, sum-upto other, certificate.adds_up)
 
 -- sizes that fit and have a certificate are least
 pub IsLeast-from_certificate : (line : ℕ → Bool) (n : ℕ) (demands certificate_cells : List Demand) (sizes : List ℕ) →
     All (IsInTable n) demands → Fits (problem_of_demands line n demands) sizes → IsCertificate (problem_of_demands line n demands) sizes certificate_cells → IsLeast (problem_of_demands line n demands) sizes
-IsLeast-from_certificate line n demands certificate_cells sizes table fits certificate =
-    record { fits = fits; least = λ other h. total_bounds line n demands certificate_cells sizes other table certificate h }
+IsLeast-from_certificate line n demands certificate_cells sizes table fits certificate = search (rules, total_bounds)

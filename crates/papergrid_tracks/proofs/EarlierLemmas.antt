@@ -1,5 +1,5 @@
 -- Of two cells the earlier.
-use Rattle.std.proofs.Common.{◌≡◌, suc, ◌<◌, ◌≤◌, Bool, true, false, ◌&&◌, ◌==◌, ◌⊎◌, inl, inr, List, [], ◌∷◌, refl, arith, eq-eqb, ne_eqb, lt-ltb, le-ltb, Option, Some, None}
+use Rattle.std.proofs.Common.{◌≡◌, suc, ◌<◌, ◌≤◌, Bool, true, false, ◌&&◌, ◌==◌, inl, inr, List, [], ◌∷◌, refl, arith, eq-eqb, ne_eqb, lt-ltb, le-ltb, Option, Some, None}
 use Rattle.std.specs.Prelude.{All, find, nat_lt}
 use Rattle.std.proofs.lemmas.Bool.{cases_Bool, cases_eq}
 use Rattle.std.proofs.lemmas.List.Elements.{All-head, All-tail, recursion_from_All}
@@ -14,26 +14,11 @@ use Rattle.papergrid_tracks.specs.ForProofs.Followed.{earlier_cell, is_before}
 pub some_none : (d : Demand) → Some d ≡ None → ⊥
 some_none d e = cc
 
--- it is one of the two
-pub earlier-either : (one other : Option Demand) (d : Demand) → earlier_cell one other ≡ Some d → (one ≡ Some d) ⊎ (other ≡ Some d)
-earlier-either None other d e = inr e
-earlier-either (Some a) None d e = inl e
-earlier-either (Some a) (Some b) d e = elim (cases_Bool (is_before (position_of b) (position_of a))) [
-  | inl t ↦ let e' : Some b ≡ Some d = rw t at e in inr e'
-  | inr f ↦ let e' : Some a ≡ Some d = rw f at e in inl e'
-]
-
 before-true : (p q : Position) → IsBefore p q → is_before p q ≡ true
-before-true p q before = elim before [
-  | inl above ↦ rw (lt-ltb p.row q.row above) refl
-  | inr beside ↦ rw (le-ltb p.row q.row (omega arith), eq-eqb p.row q.row beside.0, lt-ltb p.col q.col beside.1) refl
-]
+before-true p q before = grind (arith, lt-ltb, le-ltb, eq-eqb)
 
 before-false : (p q : Position) → IsBefore p q → is_before q p ≡ false
-before-false p q before = elim before [
-  | inl above ↦ rw (le-ltb q.row p.row (omega arith), ne_eqb q.row p.row (omega arith)) refl
-  | inr beside ↦ rw (le-ltb q.row p.row (omega arith), eq-eqb q.row p.row (omega arith), le-ltb q.col p.col (omega arith)) refl
-]
+before-false p q before = grind (arith, le-ltb, eq-eqb)
 
 stays-first : (d : Demand) (other : Option Demand) → ((e : Demand) → other ≡ Some e → IsBefore (position_of d) (position_of e)) → earlier_cell (Some d) other ≡ Some d
 stays-first d None before = refl

@@ -95,10 +95,7 @@ base-below_top demands i =
     (greatest_minimum-above (λ d. holds d i) demands (top_minimum demands i) (omega arith)))
   where
     holds_one : (d : Demand) (i : ℕ) → (d.span ≡ 1) × (d.start ≡ i) → holds d i ≡ true
-    holds_one d i e = elim (holds_cases d i) [
-      | inl h ↦ h.0
-      | inr h ↦ absurd (let a : d.span ≡ 1 = e.0 in let b : d.start ≡ i = e.1 in elim h.1 [ inl x ↦ omega arith | inr x ↦ omega arith ])
-    ]
+    holds_one d i e = grind (arith, holds_cases)
 
 -- a step that gives nothing leaves each size as it was
 pub grown_same : (line : ℕ → Bool) (sizes : List ℕ) (d : Demand) (i : ℕ) → 1 ≤ d.span → i < length sizes → deficit line sizes d ≡ 0 →

@@ -1,5 +1,5 @@
 -- A list that ascends by span is its groups of one span, one after another.
-use Rattle.std.proofs.Common.{◌≡◌, ℕ, zero, suc, ◌+◌, ◌-◌, ◌<◌, ◌≤◌, ◌≢◌, Bool, true, ◌==◌, ◌&&◌, not, inl, inr, List, [], ◌∷◌, ◌++◌, filter, refl, sym, ap, ◌∙◌, arith, eqb, eq-eqb, ne_eqb, eqb-true, ltb, lt-ltb, nat_cmp, is_lt, ap₂, ltb-true}
+use Rattle.std.proofs.Common.{◌≡◌, ℕ, zero, suc, ◌+◌, ◌-◌, ◌<◌, ◌≤◌, Bool, true, ◌==◌, ◌&&◌, not, inl, inr, List, [], ◌∷◌, ◌++◌, filter, refl, sym, ap, ◌∙◌, arith, eqb, eq-eqb, ne_eqb, eqb-true, lt-ltb, nat_cmp, is_lt, ap₂, ltb-true}
 use Rattle.std.specs.Prelude.{All, flat_map, nat_lt, ⊤}
 use Rattle.std.specs.List.{AllByRecursion, range_with_len}
 use Rattle.std.specs.List.Sorted.{IsNonDecreasingBy, IsStableByKey, ties}
@@ -7,7 +7,7 @@ use Rattle.std.proofs.lemmas.Bool.{cases_Bool, cases_eq}
 use Rattle.std.proofs.lemmas.Bool.Decides.{nat_tests}
 use Rattle.std.proofs.lemmas.List.Elements.{recursion_from_All, All-from_recursion, filter_agree}
 use Rattle.papergrid_tracks.specs.declared.demand.Demand.{Demand}
-use Rattle.papergrid_tracks.specs.Ranges.{end_of, IsInTable}
+use Rattle.papergrid_tracks.specs.Ranges.{IsInTable}
 use Rattle.papergrid_tracks.specs.ForProofs.Settled.{longer}
 use Rattle.papergrid_tracks.specs.Sizes.{by_span}
 use Rattle.papergrid_tracks.proofs.FitBound.{ByRecursion-weaker}
@@ -28,17 +28,12 @@ IsAscending-from (d ∷ ds) h = (
 
 of_span-none : (ds : List Demand) (a : ℕ) → AllByRecursion (λ d. a < d.span) ds → of_span ds a ≡ []
 of_span-none [] a all = refl
-of_span-none (d ∷ ds) a all =
-    let l : a < d.span = all.0 in
-    let ne : d.span ≢ a = omega arith in
-    rw (ne_eqb d.span a ne) (of_span-none ds a all.1)
+of_span-none (d ∷ ds) a all = grind (arith, of_span-none ds a all.1)
 
 -- groups of spans above that of the first cell do not have it
 flat_map-skip : (d : Demand) (ds : List Demand) (a m : ℕ) → d.span < a → flat_map (of_span (d ∷ ds)) (range_with_len a m) ≡ flat_map (of_span ds) (range_with_len a m)
 flat_map-skip d ds a zero l = refl
-flat_map-skip d ds a (suc m) l =
-    let ne : d.span ≢ a = omega arith in
-    rw (ne_eqb d.span a ne) (ap (λ xs. of_span ds a ++ xs) (flat_map-skip d ds (a + 1) m (omega arith)))
+flat_map-skip d ds a (suc m) l = grind (arith, flat_map-skip d ds (a + 1) m (omega arith))
 
 flat_map-none : (a m : ℕ) → flat_map (of_span []) (range_with_len a m) ≡ []
 flat_map-none a zero = refl
@@ -95,13 +90,7 @@ of_span-stable xs ys k stable =
 -- a filter within a filter that it implies
 filter-filter : (p q : Demand → Bool) → ((d : Demand) → q d ≡ true → p d ≡ true) → (ds : List Demand) → filter q (filter p ds) ≡ filter q ds
 filter-filter p q h [] = refl
-filter-filter p q h (d ∷ ds) = elim (cases_Bool (q d)) [
-  | inl y ↦ rw (h d y, y) (ap (λ xs. d ∷ xs) (filter-filter p q h ds))
-  | inr n ↦ elim (cases_Bool (p d)) [
-    | inl y ↦ rw (y, n) (filter-filter p q h ds)
-    | inr n' ↦ rw (n', n) (filter-filter p q h ds)
-  ]
-]
+filter-filter p q h (d ∷ ds) = grind (arith, cases_Bool, filter-filter p q h ds)
 
 -- what a stable sort of the cells of longer spans gives
 pub by_span-from_sort : (n : ℕ) (demands sorted : List Demand) → IsNonDecreasingBy (λ d. d.span) sorted → IsStableByKey (λ (d : Demand). d.span) nat_cmp (longer demands) sorted →
@@ -120,10 +109,4 @@ longer-spans n demands table =
   where
     go : (ds : List Demand) → AllByRecursion (IsInTable n) ds → AllByRecursion (λ d. (2 ≤ d.span) × (d.span ≤ n)) (longer ds)
     go [] all = tt
-    go (d ∷ ds) all = elim (cases_Bool (ltb 1 d.span)) [
-      | inl y ↦
-          let l : 1 < d.span = ltb-true 1 d.span y in
-          let le : end_of d ≤ n = all.0.ends_within in
-          rw y (((omega arith), (omega arith)), go ds all.1)
-      | inr f ↦ rw f (go ds all.1)
-    ]
+    go (d ∷ ds) all = grind (arith, cases_Bool, ltb-true, go ds all.1)

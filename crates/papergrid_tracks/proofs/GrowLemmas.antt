@@ -1,5 +1,5 @@
 -- The cells that grow: after all steps the outermost of them are disjoint, and each has exactly its minimum size.
-use Rattle.std.proofs.Common.{◌≡◌, ℕ, ◌+◌, ◌<◌, ◌≤◌, Bool, true, false, ◌||◌, inl, inr, List, [], ◌∷◌, length, get_or, fold, refl, sym, ap, ◌∙◌, arith, leb, ltb}
+use Rattle.std.proofs.Common.{◌≡◌, ℕ, ◌+◌, ◌<◌, ◌≤◌, Bool, true, false, ◌||◌, inl, inr, List, [], ◌∷◌, length, get_or, fold, refl, sym, ◌∙◌, arith, leb, ltb}
 use Rattle.std.specs.List.{AllByRecursion, list_any}
 use Rattle.std.proofs.lemmas.Bool.{cases_Bool, and_from, and_parts, or_parts, or_left, or_right, or_cases, ltb-true, ltb-false, leb-true, le-leb, true≢false}
 use Rattle.papergrid_tracks.specs.declared.demand.Demand.{Demand}
@@ -16,17 +16,11 @@ use Rattle.papergrid_tracks.proofs.FitBound.{length-grown, grown_same, ByRecursi
 -- what holds of the cells taken holds of those that grow, and of the outermost
 pub growing-all : (P : Demand → Type 0) (line : ℕ → Bool) (sizes : List ℕ) (by_span : List Demand) → AllByRecursion P by_span → AllByRecursion P (growing_demands line sizes by_span)
 growing-all P line sizes [] all = tt
-growing-all P line sizes (d ∷ rest) all = elim (cases_Bool (ltb 0 (deficit line sizes d))) [
-  | inl t ↦ rw t (all.0, growing-all P line (grown_sizes line sizes d) rest all.1)
-  | inr f ↦ rw f (growing-all P line (grown_sizes line sizes d) rest all.1)
-]
+growing-all P line sizes (d ∷ rest) all = grind (arith, cases_Bool, growing-all P line (grown_sizes line sizes d) rest all.1)
 
 pub outermost-all : (P : Demand → Type 0) (ds : List Demand) → AllByRecursion P ds → AllByRecursion P (outermost ds)
 outermost-all P [] all = tt
-outermost-all P (d ∷ later) all = elim (cases_Bool (list_any (lies_in d) later)) [
-  | inl t ↦ rw t (outermost-all P later all.1)
-  | inr f ↦ rw f (all.0, outermost-all P later all.1)
-]
+outermost-all P (d ∷ later) all = grind (arith, cases_Bool, outermost-all P later all.1)
 
 -- a number in no growing cell's range keeps its size
 pub size-not_covered : (line : ℕ → Bool) (sizes : List ℕ) (by_span : List Demand) (i : ℕ) → AllByRecursion (λ d. 1 ≤ d.span) by_span → i < length sizes →
@@ -62,10 +56,7 @@ range_sum-disjoint line sizes by_span e ones le disjoint =
     ∙ sym (range_sum-within sizes e)
   where
     inside : (i : ℕ) → i < e.span → holds e (e.start + i) ≡ true
-    inside i l = elim (holds_cases e (e.start + i)) [
-      | inl h ↦ h.0
-      | inr h ↦ absurd (elim h.1 [ inl x ↦ omega arith | inr x ↦ omega arith ])
-    ]
+    inside i l = grind (arith, holds_cases)
 
 -- a cell that lies in no later cell is disjoint from them
 lies_in-false : (a b : Demand) → lies_in a b ≡ false → LiesIn a b → ⊥
@@ -129,26 +120,10 @@ tight-outermost line sizes (d ∷ rest) table laminar =
 pub covered_by_later : (d : Demand) (later : List Demand) (i : ℕ) → list_any (lies_in d) later ≡ true → holds d i ≡ true → covered later i ≡ true
 covered_by_later d [] i inner h = inner
 covered_by_later d (e ∷ later) i inner h = elim (or_cases (lies_in d e) (list_any (lies_in d) later) inner) [
-  | inl x ↦
-      let parts : (leb e.start d.start ≡ true) × (leb (end_of d) (end_of e) ≡ true) = and_parts (leb e.start d.start) (leb (end_of d) (end_of e)) x in
-      let a : e.start ≤ d.start = leb-true e.start d.start parts.0 in
-      let b : end_of d ≤ end_of e = leb-true (end_of d) (end_of e) parts.1 in
-      or_left (holds e i) (covered later i) (elim (holds_cases d i) [
-        | inr y ↦ absurd (true≢false (sym h ∙ y.0))
-        | inl y ↦ elim (holds_cases e i) [
-          | inl z ↦ z.0
-          | inr z ↦ absurd (let l : d.start ≤ i = y.1 in let l' : i < end_of d = y.2 in elim z.1 [ inl w ↦ omega arith | inr w ↦ omega arith ])
-        ]
-      ])
+  | inl x ↦ grind (arith, and_parts, leb-true, or_left, covered, holds_cases, true≢false)
   | inr x ↦ or_right (holds e i) (covered later i) (covered_by_later d later i x h)
 ]
 
 pub covered-outermost : (ds : List Demand) (i : ℕ) → covered (outermost ds) i ≡ covered ds i
 covered-outermost [] i = refl
-covered-outermost (d ∷ later) i = elim (cases_Bool (list_any (lies_in d) later)) [
-  | inr f ↦ rw f (ap (λ b. holds d i || b) (covered-outermost later i))
-  | inl t ↦ rw t (covered-outermost later i ∙ elim (cases_Bool (holds d i)) [
-    | inl h ↦ covered_by_later d later i t h ∙ sym (or_left (holds d i) (covered later i) h)
-    | inr h ↦ rw h refl
-  ])
-]
+covered-outermost (d ∷ later) i = grind (arith, cases_Bool, covered_by_later, or_left, covered, covered-outermost later i)

@@ -33,10 +33,7 @@ abbrev pub least_of : Problem → List ℕ
 least_of problem = least_sizes problem (sizes_of problem)
 
 pub mirrored-twice : (n : ℕ) (d : Demand) → IsInTable n d → mirror n (mirror n d) ≡ d
-mirrored-twice n d cell =
-    let le : end_of d ≤ n = cell.ends_within in
-    let e : n - ((n - end_of d) + d.span) ≡ d.start = omega arith in
-    ap (λ (s : ℕ). let d' : Demand = record d { start = s } in d') e
+mirrored-twice n d cell = grind arith
 
 IsInTable-mirrored : (n : ℕ) (d : Demand) → IsInTable n d → IsInTable n (mirror n d)
 IsInTable-mirrored n d cell = let le : end_of d ≤ n = cell.ends_within in record { covers_one = cell.covers_one; ends_within = omega arith }
@@ -127,6 +124,4 @@ module _ (asks : Demand → ℕ) (n : ℕ) (ds : List Demand) (table : All (IsIn
       omega arith
 
 pub highest_position-last : (asks : Demand → ℕ) (n : ℕ) (ds : List Demand) → highest_position asks n ds n ≡ lowest_position asks ds n
-highest_position-last asks n ds =
-    let e : lowest_position_back asks n ds (n - n) ≡ lowest_position_back asks n ds 0 = ap (lowest_position_back asks n ds) (let s : n - n ≡ 0 = omega arith in s) in
-    omega arith
+highest_position-last asks n ds = grind arith

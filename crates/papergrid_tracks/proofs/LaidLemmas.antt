@@ -10,11 +10,7 @@ use Rattle.papergrid_tracks.specs.ForProofs.Laid.{AreSpaced, AreLaid, AreSteps}
 
 rise_by : (base : List ℕ) (a b : ℕ) (boundary : ℕ → ℕ) → AreSteps base a b boundary → (i k : ℕ) → a ≤ i → i + k ≤ b → boundary i ≤ boundary (i + k)
 rise_by base a b boundary steps i zero from le = rw add-zero (omega arith)
-rise_by base a b boundary steps i (suc k) from le =
-    let ih : boundary i ≤ boundary (i + k) = rise_by base a b boundary steps i k from (omega arith) in
-    let next : boundary (i + k) + get_or base (i + k) 0 ≤ boundary ((i + k) + 1) = steps (i + k) (omega arith) (omega arith) in
-    let e : (i + k) + 1 ≡ i + suc k = omega arith in
-    rw (← e) (omega arith)
+rise_by base a b boundary steps i (suc k) from le = grind (arith, steps, rise_by base a b boundary steps i k from (omega arith))
 
 -- no boundary is past a later one
 pub steps-rise : (base : List ℕ) (a b : ℕ) (boundary : ℕ → ℕ) → AreSteps base a b boundary → (i j : ℕ) → a ≤ i → i ≤ j → j ≤ b → boundary i ≤ boundary j
@@ -32,8 +28,6 @@ below-more base n boundary f a b steps within below laid (suc i) le = elim (case
   | inl early ↦ below (suc i) (omega arith)
   | inr late ↦
       let ih : f i ≤ boundary i = below-more base n boundary f a b steps within below laid i (omega arith) in
-      let next : boundary i + get_or base i 0 ≤ boundary (i + 1) = steps i (omega arith) (omega arith) in
-      let here : f (i + 1) ≡ f i + get_or base i 0 = laid i late (omega arith) in
       let e : i + 1 ≡ suc i = omega arith in
       rw (← e) (omega arith)
 ]
@@ -44,23 +38,10 @@ module _ (base : List ℕ) (n : ℕ) (cells : List Demand) (table : All (IsInTab
     (there : g (end_of (get_or cells k d)) ≡ max (m (end_of (get_or cells k d))) (m (get_or cells k d).start + (get_or cells k d).minimum))
     (elsewhere : (i : ℕ) → i ≢ end_of (get_or cells k d) → g i ≡ m i) where
   not_less : (i : ℕ) → m i ≤ g i
-  not_less i = elim (cases_eq i (end_of (get_or cells k d))) [
-    | inl e ↦ rw e (omega arith)
-    | inr ne ↦ let same : g i ≡ m i = elsewhere i ne in omega arith
-  ]
+  not_less i = grind (arith, cases_eq)
 
   pub steps-cell : AreSteps base 0 a f → AreSteps base 0 (end_of (get_or cells k d)) g
-  steps-cell steps i from l =
-      let x : g i ≡ m i = elsewhere i (omega arith) in
-      let y : m (i + 1) ≤ g (i + 1) = not_less (i + 1) in
-      elim (cases_lt i a) [
-        | inl early ↦
-            let s : f i + get_or base i 0 ≤ f (i + 1) = steps i from early in
-            let p : m i ≡ f i = before i (omega arith) in
-            let q : m (i + 1) ≡ f (i + 1) = before (i + 1) (omega arith) in
-            omega arith
-        | inr late ↦ let s : m (i + 1) ≡ m i + get_or base i 0 = laid i late l in omega arith
-      ]
+  steps-cell steps i from l = grind (arith, not_less, cases_lt, steps)
 
   pub apart-cell : ((j : ℕ) (c : Demand) → j < k → (end_of (get_or cells j c) ≤ a) × (f (get_or cells j c).start + (get_or cells j c).minimum ≤ f (end_of (get_or cells j c)))) →
       (j : ℕ) (c : Demand) → j < k + 1 → (end_of (get_or cells j c) ≤ end_of (get_or cells k d)) × (g (get_or cells j c).start + (get_or cells j c).minimum ≤ g (end_of (get_or cells j c)))
@@ -73,22 +54,10 @@ module _ (base : List ℕ) (n : ℕ) (cells : List Demand) (table : All (IsInTab
     where
       earlier : (j : ℕ) (c : Demand) → 1 ≤ (get_or cells j c).span → (end_of (get_or cells j c) ≤ a) × (f (get_or cells j c).start + (get_or cells j c).minimum ≤ f (end_of (get_or cells j c))) →
           (end_of (get_or cells j c) ≤ end_of (get_or cells k d)) × (g (get_or cells j c).start + (get_or cells j c).minimum ≤ g (end_of (get_or cells j c)))
-      earlier j c one known =
-          let ends : end_of (get_or cells j c) ≤ a = known.0 in
-          let p : m (get_or cells j c).start ≡ f (get_or cells j c).start = before (get_or cells j c).start (omega arith) in
-          let q : m (end_of (get_or cells j c)) ≡ f (end_of (get_or cells j c)) = before (end_of (get_or cells j c)) ends in
-          let x : g (get_or cells j c).start ≡ m (get_or cells j c).start = elsewhere (get_or cells j c).start (omega arith) in
-          let y : m (end_of (get_or cells j c)) ≤ g (end_of (get_or cells j c)) = not_less (end_of (get_or cells j c)) in
-          let known' : f (get_or cells j c).start + (get_or cells j c).minimum ≤ f (end_of (get_or cells j c)) = known.1 in
-          (omega arith, omega arith)
+      earlier j c one known = grind (arith, not_less)
 
       here : (j : ℕ) (c : Demand) → j ≡ k → 1 ≤ (get_or cells j c).span → (end_of (get_or cells j c) ≤ end_of (get_or cells k d)) × (g (get_or cells j c).start + (get_or cells j c).minimum ≤ g (end_of (get_or cells j c)))
-      here j c same one =
-          let e : get_or cells j c ≡ get_or cells k d = ap (λ j. get_or cells j c) same ∙ get_or_default cells k c d listed in
-          let one' : 1 ≤ (get_or cells k d).span = (table k d listed).covers_one in
-          let x : g (get_or cells k d).start ≡ m (get_or cells k d).start = elsewhere (get_or cells k d).start (omega arith) in
-          let y : g (get_or cells k d).start + (get_or cells k d).minimum ≤ g (end_of (get_or cells k d)) = omega arith in
-          rw e (omega arith, y)
+      here j c same one = grind (arith, get_or_default)
 
   pub below-cell : (boundary : ℕ → ℕ) → AreSteps base 0 n boundary → AreSpaced cells boundary → ((i : ℕ) → i ≤ a → f i ≤ boundary i) → (i : ℕ) → i ≤ end_of (get_or cells k d) → g i ≤ boundary i
   below-cell boundary steps apart below i le = elim (cases_eq i (end_of (get_or cells k d))) [
@@ -121,17 +90,6 @@ pub record LaidTo (base : List ℕ) (cells : List Demand) (k a : ℕ) (boundarie
   pub later : (j : ℕ) (d : Demand) → k ≤ j → j < length cells → a ≤ end_of (get_or cells j d)
   pub below : (boundary : ℕ → ℕ) → AreLaid base cells boundary → (i : ℕ) → i ≤ a → get_or boundaries i 0 ≤ boundary i
 
--- before the first cell, where the first boundary is at 0
-pub LaidTo-none : (base : List ℕ) (cells : List Demand) (boundaries : List ℕ) → length boundaries ≡ length base + 1 → get_or boundaries 0 0 ≡ 0 → LaidTo base cells 0 0 boundaries
-LaidTo-none base cells boundaries one_more first = record {
-  one_more = one_more;
-  within = omega arith;
-  steps = λ i from l. absurd (omega arith);
-  apart = λ j d l. absurd (omega arith);
-  later = λ j d from l. omega arith;
-  below = λ boundary are i l. let e : i ≡ 0 = omega arith in rw e (omega arith);
-}
-
 -- one step of the loop: boundaries laid on up to the end of the next cell, as `mid`
 module _ (base : List ℕ) (cells : List Demand) (table : All (IsInTable (length base)) cells) (sorted : IsNonDecreasingBy end_of cells) (k a : ℕ) (boundaries mid : List ℕ) (listed : k < length cells)
     (laid_to : LaidTo base cells k a boundaries) (same : length mid ≡ length boundaries) (before : (i : ℕ) → i ≤ a → get_or mid i 0 ≡ get_or boundaries i 0)
@@ -148,10 +106,7 @@ module _ (base : List ℕ) (cells : List Demand) (table : All (IsInTable (length
       omega arith
 
   pub end-in_mid : end_of (get_or cells k no_cell) < length mid
-  end-in_mid =
-      let within : end_of (get_or cells k no_cell) ≤ length base = (table k no_cell listed).ends_within in
-      let one_more : length boundaries ≡ length base + 1 = laid_to.one_more in
-      omega arith
+  end-in_mid = grind arith
 
   pub start-in_mid : (get_or cells k no_cell).start < length mid
   start-in_mid = let l : end_of (get_or cells k no_cell) < length mid = end-in_mid in omega arith
@@ -176,9 +131,7 @@ module _ (base : List ℕ) (cells : List Demand) (table : All (IsInTable (length
       steps = steps-cell base (length base) cells table k no_cell listed (λ i. get_or boundaries i 0) (λ i. get_or mid i 0) (λ i. get_or moved i 0) a ordered before laid there elsewhere laid_to.steps;
       apart = apart-cell base (length base) cells table k no_cell listed (λ i. get_or boundaries i 0) (λ i. get_or mid i 0) (λ i. get_or moved i 0) a ordered before laid there elsewhere laid_to.apart;
       later = λ j d from l. let s : end_of (get_or cells k d) ≤ end_of (get_or cells j d) = sorted k j d (omega arith) l in
-          let e : get_or cells k d ≡ get_or cells k no_cell = get_or_default cells k d no_cell listed in
-          let e' : end_of (get_or cells k d) ≡ end_of (get_or cells k no_cell) = ap end_of e in
-          omega arith;
+          omega (arith, ap end_of (get_or_default cells k d no_cell listed));
       below = λ boundary are. below-cell base (length base) cells table k no_cell listed (λ i. get_or boundaries i 0) (λ i. get_or mid i 0) (λ i. get_or moved i 0) a ordered before laid there elsewhere boundary are.steps are.apart (laid_to.below boundary are);
     }
 
@@ -189,24 +142,3 @@ module _ (base : List ℕ) (cells : List Demand) (k a : ℕ) (boundaries whole :
   below-whole boundary are =
       below-more base (length base) boundary (λ i. get_or whole i 0) a (length base) are.steps (omega arith)
       (λ i l. let e : get_or whole i 0 ≡ get_or boundaries i 0 = before i l in let b : get_or boundaries i 0 ≤ boundary i = laid_to.below boundary are i l in omega arith) laid
-
-  pub AreLaid-whole : AreLaid base cells (λ i. get_or whole i 0)
-  AreLaid-whole = record { steps = steps-whole; apart = λ j d l. apart-whole (get_or cells j d) (laid_to.apart j d (omega arith)) }
-    where
-      steps-whole : AreSteps base 0 (length base) (λ i. get_or whole i 0)
-      steps-whole i from l = elim (cases_lt i a) [
-        | inl early ↦
-            let s : get_or boundaries i 0 + get_or base i 0 ≤ get_or boundaries (i + 1) 0 = laid_to.steps i from early in
-            let p : get_or whole i 0 ≡ get_or boundaries i 0 = before i (omega arith) in
-            let q : get_or whole (i + 1) 0 ≡ get_or boundaries (i + 1) 0 = before (i + 1) (omega arith) in
-            omega arith
-        | inr late ↦ let s : get_or whole (i + 1) 0 ≡ get_or whole i 0 + get_or base i 0 = laid i late l in omega arith
-      ]
-
-      apart-whole : (d : Demand) → (end_of d ≤ a) × (get_or boundaries d.start 0 + d.minimum ≤ get_or boundaries (end_of d) 0) → get_or whole d.start 0 + d.minimum ≤ get_or whole (end_of d) 0
-      apart-whole d known =
-          let ends : end_of d ≤ a = known.0 in
-          let apart : get_or boundaries d.start 0 + d.minimum ≤ get_or boundaries (end_of d) 0 = known.1 in
-          let p : get_or whole d.start 0 ≡ get_or boundaries d.start 0 = before d.start (omega arith) in
-          let q : get_or whole (end_of d) 0 ≡ get_or boundaries (end_of d) 0 = before (end_of d) ends in
-          omega arith

@@ -20,9 +20,7 @@ use Rattle.papergrid_tracks.proofs.Certified.{AreDisjoint-sym, holds_start, none
 -- one more cell overwrites the table on its range
 pub last_holding_push : (ds : List Demand) (d : Demand) (i : ℕ) → last_holding (ds ++ d ∷ []) i ≡ cond (holds d i) (Some d) (last_holding ds i)
 last_holding_push [] d i = refl
-last_holding_push (c ∷ ds) d i =
-    let e : last_holding (ds ++ d ∷ []) i ≡ cond (holds d i) (Some d) (last_holding ds i) = last_holding_push ds d i in
-    rw e (elim (cases_Bool (holds d i)) [ inl t ↦ rw t refl | inr f ↦ rw f refl ])
+last_holding_push (c ∷ ds) d i = grind (arith, cases_Bool, last_holding_push ds d i)
 
 pub last_holding-none : (ds : List Demand) (i : ℕ) → covered ds i ≡ false → last_holding ds i ≡ None
 last_holding-none [] i f = refl
@@ -52,10 +50,7 @@ starting_at i (Some d) = cond (eqb d.start i) (Some d) None
 
 starting_at-other : (d : Demand) (i : ℕ) (o : Option Demand) → eqb d.start i ≡ false → starting_at i o ≡ starting_at i (option_or o (cond (holds d i) (Some d) None))
 starting_at-other d i (Some e) f = refl
-starting_at-other d i None f = elim (cases_Bool (holds d i)) [
-  | inl h ↦ rw h (rw f refl)
-  | inr h ↦ rw h refl
-]
+starting_at-other d i None f = grind (arith, cases_Bool)
 
 -- the outermost cell that starts at i is the one that the table holds at i, where that one starts there
 pub find-outermost : (ds : List Demand) (i : ℕ) → IsLaminarInOrder ds → AllByRecursion (λ d. 1 ≤ d.span) ds →
@@ -65,9 +60,7 @@ find-outermost (d ∷ rest) i laminar ones =
     let ih : find (λ d. d.start == i) (outermost rest) ≡ starting_at i (last_holding rest i) = find-outermost rest i laminar.1 ones.1 in
     elim (cases_Bool (list_any (lies_in d) rest)) [
       | inl inner ↦ rw inner (ih ∙ elim (cases_Bool (covered rest i)) [
-        | inl t ↦
-            let found : (e : Demand) × (last_holding rest i ≡ Some e) = last_holding-some rest i t in
-            rw found.1 refl
+        | inl t ↦ grind (arith, last_holding-some)
         | inr f ↦ elim (cases_Bool (holds d i)) [
           | inl h ↦ absurd (true≢false (sym (covered_by_later d rest i inner h) ∙ f))
           | inr h ↦ rw (last_holding-none rest i f, h) refl
@@ -96,12 +89,7 @@ last_holding-all P (d ∷ rest) i o all e = step (last_holding rest i) (λ e'. l
   where
     step : (p : Option Demand) → (p ≡ Some o → (holds o i ≡ true) × P o) → option_or p (cond (holds d i) (Some d) None) ≡ Some o → (holds o i ≡ true) × P o
     step (Some c) later e = later e
-    step None later e = elim (cases_Bool (holds d i)) [
-      | inl h ↦
-          let same : d ≡ o = some_same (rw h at e) in
-          subst (λ c. (holds c i ≡ true) × P c) same (h, all.0)
-      | inr h ↦ absurd (none_some {d = o} (rw h at e))
-    ]
+    step None later e = grind (arith, cases_Bool, some_same, none_some)
 
 -- a number that both ranges hold, or they are disjoint
 pub meet : (c d : Demand) → 1 ≤ c.span → 1 ≤ d.span → AreDisjoint c d ⊎ ((i : ℕ) × (holds c i ≡ true) × (holds d i ≡ true))
@@ -133,11 +121,7 @@ precedes-from_last (c ∷ rest) d laminar one ones each =
         let is : (holds o i ≡ true) × Precedes c o = last_holding-all (Precedes c) rest i o laminar.0 e in
         let outer : LiesIn o d = each i o h' (rw e refl) in
         let inner : LiesIn c o = elim is.1 [ inl x ↦ absurd (together c o i h is.0 x) | inr x ↦ x ] in
-        let p : o.start ≤ c.start = inner.0 in
-        let q : end_of c ≤ end_of o = inner.1 in
-        let p' : d.start ≤ o.start = outer.0 in
-        let q' : end_of o ≤ end_of d = outer.1 in
-        ((omega arith), (omega arith))
+        ((omega arith), (omega (arith, inner.0, inner.1, outer.0, outer.1)))
 
     first : Precedes c d
     first = elim (meet c d ones.0 one) [

@@ -7,7 +7,7 @@ use Rattle.std.proofs.lemmas.Bool.{cases_Bool, cases_eq, cases_lt, true≢false}
 use Rattle.std.proofs.lemmas.List.{get_or_past}
 use Rattle.std.specs.Option.{option_or}
 use Rattle.papergrid_tracks.specs.declared.demand.Demand.{Demand}
-use Rattle.papergrid_tracks.specs.Ranges.{end_of, holds, IsInTable, LiesIn}
+use Rattle.papergrid_tracks.specs.Ranges.{holds, IsInTable, LiesIn}
 use Rattle.papergrid_tracks.specs.Certificates.{exact_single, single_at, outermost, certificate_cells}
 use Rattle.papergrid_tracks.proofs.RangeLemmas.{covered}
 use Rattle.papergrid_tracks.proofs.LoopLemmas.{range_with_len-append}
@@ -38,10 +38,8 @@ module _ (n : ℕ) (ds : List Demand) (last : List (Option Demand)) (table : All
   pub table-cells : (i : ℕ) (o : Demand) → get_or last i None ≡ Some o → IsInTable (length last) o
   table-cells i o e = elim (cases_lt i n) [
     | inl l ↦
-        let same : length last ≡ n = is.many in
-        rw same (last_holding-all (IsInTable n) ds i o table (sym (is.holds_last i l) ∙ e)).1
+        rw is.many (last_holding-all (IsInTable n) ds i o table (sym (is.holds_last i l) ∙ e)).1
     | inr le ↦
-        let many : length last ≡ n = is.many in
         absurd (none_some (sym (get_or_past last i None (omega arith)) ∙ e))
   ]
 
@@ -49,10 +47,7 @@ module _ (n : ℕ) (ds : List Demand) (last : List (Option Demand)) (table : All
   ones = ByRecursion-weaker (IsInTable n) (λ c. 1 ≤ c.span) (λ c t. t.covers_one) ds table
 
   in_table : (d : Demand) (i : ℕ) → IsInTable n d → holds d i ≡ true → i < n
-  in_table d i t h = elim (holds_cases d i) [
-    | inl x ↦ let l : i < end_of d = x.2 in let le : end_of d ≤ n = t.ends_within in omega arith
-    | inr x ↦ absurd (true≢false (sym h ∙ x.0))
-  ]
+  in_table d i t h = grind (arith, holds_cases, true≢false)
 
   -- one more cell
   pub IsTableOf-more : (d : Demand) (new : List (Option Demand)) → IsInTable n d →
@@ -74,9 +69,7 @@ module _ (n : ℕ) (ds : List Demand) (last : List (Option Demand)) (table : All
 
 -- one more number for the cells of the certificate
 pub filter_map_slot_more : (h : ℕ → Option Demand) (i : ℕ) → filter_map h (range_with_len 0 (i + 1)) ≡ filter_map h (range_with_len 0 i) ++ cons_option (h i) []
-filter_map_slot_more h i =
-    ap (filter_map h) (range_with_len-append 0 i 1) ∙ filter_map-append h (range_with_len 0 i) (range_with_len (0 + i) 1)
-    ∙ ap (λ j. filter_map h (range_with_len 0 i) ++ cons_option (h j) []) (let e : 0 + i ≡ i = omega arith in e)
+filter_map_slot_more h i = grind (arith, range_with_len-append, filter_map-append)
 
 filter_map-agree : (h g : ℕ → Option Demand) (a n : ℕ) → ((i : ℕ) → a ≤ i → i < a + n → h i ≡ g i) → filter_map h (range_with_len a n) ≡ filter_map g (range_with_len a n)
 filter_map-agree h g a zero same = refl
@@ -94,22 +87,14 @@ slot-certificate_cells : (demands growing_cells : List Demand) (sizes : List ℕ
 slot-certificate_cells demands growing_cells sizes i laminar ones =
     sym (certificate_cells-at demands growing_cells sizes i laminar ones
     ∙ elim (cases_Bool (covered growing_cells i)) [
-      | inl t ↦
-          let found : (d : Demand) × (last_holding growing_cells i ≡ Some d) = last_holding-some growing_cells i t in
-          rw (found.1, t) (option_or-none (starting_at i (Some found.0)))
+      | inl t ↦ grind (arith, last_holding-some, option_or-none, starting_at)
       | inr f ↦ rw (last_holding-none growing_cells i f, f) refl
     ])
 
 -- where the cell kept at i is exact, it is the one in the slot
 slot-kept : (demands growing_cells : List Demand) (sizes : List ℕ) (single_span : List Demand) (i : ℕ) → i < length sizes → AreExact demands growing_cells sizes single_span →
     slot_of (last_holding growing_cells i) (Some (get_or single_span i no_demand)) (get_or sizes i 0) i ≡ slot_of (last_holding growing_cells i) (exact_single demands sizes i) (get_or sizes i 0) i
-slot-kept demands growing_cells sizes single_span i l exact = elim (cases_Bool (covered growing_cells i)) [
-  | inl t ↦ let found : (d : Demand) × (last_holding growing_cells i ≡ Some d) = last_holding-some growing_cells i t in rw found.1 refl
-  | inr f ↦ elim (cases_eq (get_or sizes i 0) 0) [
-    | inl none ↦ rw (last_holding-none growing_cells i f, none) refl
-    | inr some ↦ rw (last_holding-none growing_cells i f) (ap (λ o. slot_of None o (get_or sizes i 0) i) (sym (exact i l f some)))
-  ]
-]
+slot-kept demands growing_cells sizes single_span i l exact = grind (arith, cases_Bool, covered, last_holding-some, cases_eq, last_holding-none)
 
 -- the cells by one look at each track are those of the certificate
 pub certificate_cells-by_slots : (demands growing_cells : List Demand) (sizes : List ℕ) (last : List (Option Demand)) (single_span : List Demand) → IsLaminarInOrder growing_cells → AllByRecursion (λ d. 1 ≤ d.span) growing_cells →

@@ -44,14 +44,7 @@ module _ (line drawn : ℕ → Bool) (n limit : ℕ) (demands : List Demand) (ag
       apart_at d cell apart = let e : net_minimum drawn d ≡ net_minimum line d = same_asked d cell in omega arith
 
       alone : (i : ℕ) (d : Demand) → boundary d.start + net_minimum line d ≤ boundary (end_of d) → (d.span == 1 && d.start == i) ≡ true → d.minimum ≤ boundary (i + 1) - boundary i
-      alone i d apart t =
-          let parts : (d.span ≡ 1) × (d.start ≡ i) = holds_alone d i t in
-          let one : d.span ≡ 1 = parts.0 in
-          let here : d.start ≡ i = parts.1 in
-          let inner : inner_lines line d ≡ 0 = inner-alone line d one in
-          let p : boundary d.start ≡ boundary i = ap boundary here in
-          let q : boundary (end_of d) ≡ boundary (i + 1) = ap boundary (let s : end_of d ≡ i + 1 = omega arith in s) in
-          omega arith
+      alone i d apart t = grind (arith, holds_alone, inner-alone)
 
       step : (i : ℕ) → i < n → boundary i + get_or base i 0 ≤ boundary (i + 1)
       step i l =

@@ -7,7 +7,6 @@ use Rattle.papergrid_values.specs.declared.position.Position.{Position}
 use Rattle.papergrid_tracks.proofs.BySizing.{AreLeastSizes, AreLeastTooLarge}
 use Rattle.papergrid_tracks.specs.declared.demand.Demand.{Demand}
 use Rattle.papergrid_tracks.specs.Ranges.{IsInTable, IsLaminar, first_out, position_of}
-use Rattle.papergrid_values.specs.Lines.{all_lines}
 use Rattle.papergrid_tracks.specs.Problem.{Problem, problem_of_demands, total_of}
 use Rattle.papergrid_tracks.specs.Fits.{Fits, IsLeast, IsCertificate, IsTooLarge, top_minimum}
 use Rattle.papergrid_tracks.specs.Sizes.{sizes_of}
@@ -89,20 +88,7 @@ pub refused-least : (problem : Problem) (least : List ℕ) → IsLeast problem l
 refused-least problem least is = ((λ large other fits. too_large other large (is.least other fits)), (λ each. each least is.fits))
   where
     too_large : (other : List ℕ) → IsTooLarge problem least → sum least ≤ sum other → IsTooLarge problem other
-    too_large other large le =
-        let large' : 18446744073709551616 ≤ sum least + all_lines problem.line problem.count = large in
-        let all : 18446744073709551616 ≤ sum other + all_lines problem.line problem.count = omega arith in
-        all
-
--- some sizes fit that are not too large exactly where least sizes are not
-pub decides-least : (problem : Problem) (least : List ℕ) → IsLeast problem least → ((sizes : List ℕ) × Fits problem sizes × (total_of problem sizes < 18446744073709551616)) ↔ (total_of problem least < 18446744073709551616)
-decides-least problem least is = ((λ some. small some.0 some.2 (is.least some.0 some.1)), (λ l. (least, is.fits, l)))
-  where
-    small : (sizes : List ℕ) → total_of problem sizes < 18446744073709551616 → sum least ≤ sum sizes → total_of problem least < 18446744073709551616
-    small sizes l le =
-        let l' : sum sizes + all_lines problem.line problem.count < 18446744073709551616 = l in
-        let all : sum least + all_lines problem.line problem.count < 18446744073709551616 = omega arith in
-        all
+    too_large other large le = grind arith
 
 module _ (problem : Problem) (table : All (IsInTable problem.count) problem.demands) where
   pub IsLeast-least_of : IsLeast problem (least_of problem)
@@ -170,11 +156,7 @@ module _ (problem : Problem) (table : All (IsInTable problem.count) problem.dema
   furthest_right-is sizes = (unique, λ e. subst (AreFurthestRight problem) (sym e) record { among = before-least_of; furthest = furthest-least_of })
     where
       unique : AreFurthestRight problem sizes → sizes ≡ least_of problem
-      unique are = same_boundaries problem.count sizes (least_of problem) are.among.least.fits.one_each IsLeast-least_of.fits.one_each
-          (λ i l.
-          let a : boundaries_of (least_of problem) i ≤ boundaries_of sizes i = are.furthest (least_of problem) before-least_of i l in
-          let b : boundaries_of sizes i ≤ boundaries_of (least_of problem) i = furthest-least_of sizes are.among i l in
-          omega arith)
+      unique are = grind (arith, same_boundaries, least_of, before-least_of, furthest-least_of)
 
   -- the sum of any least sizes is the least total
   pub least-total : (sizes : List ℕ) → IsLeast problem sizes → sum sizes ≡ least_total problem
@@ -186,12 +168,7 @@ module _ (problem : Problem) (table : All (IsInTable problem.count) problem.dema
 
   -- so where some are not too large, none are
   pub fits-least : total_of problem (least_of problem) < 18446744073709551616 → (sizes : List ℕ) → IsLeast problem sizes → total_of problem sizes < 18446744073709551616
-  fits-least small sizes least =
-      let a : sum sizes ≡ least_total problem = least-total sizes least in
-      let b : sum (least_of problem) ≡ least_total problem = total-least_of in
-      let c : sum (least_of problem) + all_lines problem.line problem.count < 18446744073709551616 = small in
-      let d : sum sizes + all_lines problem.line problem.count < 18446744073709551616 = omega arith in
-      d
+  fits-least small sizes least = grind (arith, least_total, least-total, least_of, total-least_of)
 
   -- and the critical path certifies them
   pub IsCertificate-least : (sizes : List ℕ) → IsLeast problem sizes → IsCertificate problem sizes (critical_path problem)
@@ -223,12 +200,7 @@ module _ (problem : Problem) (table : All (IsInTable problem.count) problem.dema
     }
 
     pub AreLeastTooLarge-by_all : ((other : List ℕ) → Fits problem other → IsTooLarge problem other) → AreLeastTooLarge problem
-    AreLeastTooLarge-by_all each = record {
-      table = table;
-      none_out = inside;
-      too_large = λ sizes exact. each sizes exact.among.least.fits;
-      others_too_large = λ _. each;
-    }
+    AreLeastTooLarge-by_all each = grind arith
 
     pub AreLeastTooLarge-least_of : IsTooLarge problem (least_of problem) → AreLeastTooLarge problem
     AreLeastTooLarge-least_of large = AreLeastTooLarge-by_all ((refused-least problem (least_of problem) IsLeast-least_of).0 large)

@@ -26,28 +26,15 @@ pub drawn_from : (lines : List Bool) (a m : ℕ) → a + m ≤ length lines → 
 drawn_from lines a zero le = refl
 drawn_from lines a (suc m) le =
     let x : Bool = get_or lines a false in
-    let ys : List Bool = drop (a + 1) lines in
-    let e : drop a lines ≡ get_or lines a false ∷ drop (a + 1) lines = drop_more lines a false (omega arith) in
-    let b : count_by (λ x. x) (take (suc m) (drop a lines)) ≡ count_by (λ x. x) (get_or lines a false ∷ take m (drop (a + 1) lines)) =
-    ap (λ zs. count_by (λ x. x) (take (suc m) zs)) e in
-    let c : count_by (λ x. x) (get_or lines a false ∷ take m (drop (a + 1) lines)) ≡ cond (get_or lines a false) 1 0 + count_by (λ x. x) (take m (drop (a + 1) lines)) =
-    sum_by-cons (λ x. cond x 1 0) (get_or lines a false) (take m (drop (a + 1) lines)) in
-    let s : count_by (line_at lines) (range_with_len a (suc m)) ≡ cond (get_or lines a false) 1 0 + count_by (line_at lines) (range_with_len (a + 1) m) =
-    sum_by-cons (λ i. cond (line_at lines i) 1 0) a (range_with_len (a + 1) m) in
+    let b = ap (λ zs. count_by (λ x. x) (take (suc m) zs)) (drop_more lines a false (omega arith)) in
+    let c = sum_by-cons (λ x. cond x 1 0) (get_or lines a false) (take m (drop (a + 1) lines)) in
+    let s = sum_by-cons (λ i. cond (line_at lines i) 1 0) a (range_with_len (a + 1) m) in
     let ih : count_by (λ x. x) (take m (drop (a + 1) lines)) ≡ count_by (line_at lines) (range_with_len (a + 1) m) = drawn_from lines (a + 1) m (omega arith) in
     omega arith
 
--- the part of a list that a slice of a range is
-pub range_sum-slice : (sizes : List ℕ) (d : Demand) → sum (take (d.start + d.span - d.start) (drop d.start sizes)) ≡ range_sum sizes d
-range_sum-slice sizes d = ap (λ k. sum (take k (drop d.start sizes))) (let e : d.start + d.span - d.start ≡ d.span = omega arith in e)
-
 pub inner_lines-slice : (lines : List Bool) (d : Demand) → IsInTable (length lines) d →
     count_by (λ x. x) (take (d.start + d.span - (d.start + 1)) (drop (d.start + 1) lines)) ≡ inner_lines (line_at lines) d
-inner_lines-slice lines d table =
-    let one : 1 ≤ d.span = table.covers_one in
-    let le : end_of d ≤ length lines = table.ends_within in
-    ap (λ k. count_by (λ x. x) (take k (drop (d.start + 1) lines))) (let e : d.start + d.span - (d.start + 1) ≡ d.span - 1 = omega arith in e)
-    ∙ drawn_from lines (d.start + 1) (d.span - 1) (omega arith)
+inner_lines-slice lines d table = grind (arith, drawn_from)
 
 -- no share is more than the whole
 pub share-le : (amount : ℕ) (d : Demand) (i : ℕ) → 1 ≤ d.span → share amount d i ≤ amount
@@ -76,10 +63,7 @@ Distributes-all amount d old new next_share one same h =
     (λ k l. elim (cases_lt k (end_of d)) [
       | inl lt ↦ h.below k lt ∙ sym (at k (omega arith))
       | inr le ↦
-          let z : share amount d k ≡ 0 = share-out amount d k one (inr le) in
-          let e : get_or (distributed amount d old) k 0 ≡ get_or old k 0 + share amount d k = at k (omega arith) in
-          let r : get_or new k 0 ≡ get_or old k 0 = h.rest k le in
-          omega arith
+          omega (arith, at k (omega arith), share-out amount d k one (inr le), h.rest k le)
     ])
   where
     at : (k : ℕ) → k < length old → get_or (distributed amount d old) k 0 ≡ get_or old k 0 + share amount d k
@@ -119,19 +103,8 @@ inner_lines-le line n d table =
 
 -- a cell with room needs no more than the total with all lines
 pub minimum_within_total : (line : ℕ → Bool) (n : ℕ) (sizes : List ℕ) (d : Demand) → end_of d ≤ n → HasRoom line sizes d → d.minimum ≤ sum sizes + all_lines line n
-minimum_within_total line n sizes d le room =
-    let a : range_sum sizes d ≤ sum sizes = range_sum-le sizes d in
-    elim (cases_lt 0 d.span) [
-      | inl one ↦ let b : inner_lines line d ≤ all_lines line n = inner_lines-le line n d record { covers_one = omega arith; ends_within = le } in omega arith
-      | inr none ↦
-          let z : d.span ≡ 0 = omega arith in
-          let b : inner_lines line d ≡ 0 = ap (λ k. count_by line (range_with_len (d.start + 1) (k - 1))) z in
-          omega arith
-    ]
+minimum_within_total line n sizes d le room = grind (arith, range_sum-le, cases_lt, inner_lines-le)
 
 -- a minimum size past the greatest `usize`: every list that fits is too large
 pub large_minimum : (line : ℕ → Bool) (n : ℕ) (sizes : List ℕ) (d : Demand) → IsInTable n d → 18446744073709551615 < d.minimum → HasRoom line sizes d → 18446744073709551616 ≤ sum sizes + all_lines line n
-large_minimum line n sizes d table large room =
-    let a : d.minimum ≤ sum sizes + all_lines line n = minimum_within_total line n sizes d table.ends_within room in
-    let c : 18446744073709551616 ≤ sum sizes + all_lines line n = omega arith in
-    c
+large_minimum line n sizes d table large room = grind (arith, minimum_within_total)

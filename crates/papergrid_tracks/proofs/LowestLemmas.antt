@@ -1,5 +1,5 @@
 -- The lowest positions of the boundaries, each as far to the left as the cells let it be: they are boundaries, and no boundaries are below them.
-use Rattle.std.proofs.Common.{◌≡◌, ℕ, take, sum, zero, suc, ◌+◌, ◌≤◌, max, Bool, true, ◌==◌, inl, inr, List, [], ◌∷◌, get_or, map, ◌-◌, refl, sym, ap, ◌∙◌, arith, add-suc, add-zero, le-leb, eqb-true, eq-eqb}
+use Rattle.std.proofs.Common.{◌≡◌, ℕ, sum, zero, suc, ◌+◌, ◌≤◌, max, Bool, true, ◌==◌, inl, inr, List, [], ◌∷◌, get_or, map, ◌-◌, refl, sym, ap, ◌∙◌, arith, add-suc, add-zero, le-leb, eqb-true, eq-eqb, rules}
 use Rattle.std.specs.Prelude.{All, filter, if◌then◌else◌, nat_le}
 use Rattle.std.specs.List.{AllByRecursion}
 use Rattle.std.proofs.lemmas.Bool.{cases_Bool, cases_lt, true≢false, lt-leb}
@@ -41,19 +41,12 @@ greatest_by-above f test (d ∷ ds) m le = elim (cases_Bool (test d)) [
       let le' : max (f d) (greatest_by f test ds) ≤ m = rw t at le in
       ((λ t'. omega arith), greatest_by-above f test ds m (omega arith))
   | inr f' ↦
-      let le' : greatest_by f test ds ≤ m = rw f' at le in
-      ((λ t'. absurd (true≢false (sym t' ∙ f'))), greatest_by-above f test ds m le')
+      ((λ t'. absurd (true≢false (sym t' ∙ f'))), greatest_by-above f test ds m (rw f' at le))
 ]
 
 pub greatest_by-below : (f : Demand → ℕ) (test : Demand → Bool) (ds : List Demand) (m : ℕ) → AllByRecursion (λ d. test d ≡ true → f d ≤ m) ds → greatest_by f test ds ≤ m
 greatest_by-below f test [] m each = omega arith
-greatest_by-below f test (d ∷ ds) m each = elim (cases_Bool (test d)) [
-  | inl t ↦
-      let ih : greatest_by f test ds ≤ m = greatest_by-below f test ds m each.1 in
-      let here : f d ≤ m = each.0 t in
-      rw t (omega arith)
-  | inr f' ↦ rw f' (greatest_by-below f test ds m each.1)
-]
+greatest_by-below f test (d ∷ ds) m each = grind (arith, cases_Bool, greatest_by-below f test ds m each.1)
 
 -- each cell whose range ends at i bounds its boundary from below, and nothing else does
 pub pushed-above : (asks : Demand → ℕ) (ds : List Demand) (boundary : ℕ → ℕ) (i : ℕ) →
@@ -63,9 +56,7 @@ pushed-above asks ds boundary i k d l e =
     (greatest_by-above (λ d. boundary d.start + asks d) (λ d. end_of d == i) ds (pushed_lower_bound asks ds boundary i) (omega arith)) k d l (eq-eqb _ i e)
 
 pub pushed-below : (asks : Demand → ℕ) (ds : List Demand) (boundary : ℕ → ℕ) (i m : ℕ) → All (λ d. end_of d ≡ i → boundary d.start + asks d ≤ m) ds → pushed_lower_bound asks ds boundary i ≤ m
-pushed-below asks ds boundary i m each =
-    greatest_by-below (λ d. boundary d.start + asks d) (λ d. end_of d == i) ds m
-    (recursion_from_All (λ d. (end_of d == i) ≡ true → boundary d.start + asks d ≤ m) ds (λ k d l t. each k d l (eqb-true _ i t)))
+pushed-below asks ds boundary i m each = search (rules, greatest_by-below, recursion_from_All, eqb-true)
 
 module _ (asks : Demand → ℕ) (ds : List Demand) where
   lowest_position_to-before : (k i : ℕ) → i ≤ k → lowest_position_to asks ds (suc k) i ≡ lowest_position_to asks ds k i
@@ -93,9 +84,8 @@ module _ (asks : Demand → ℕ) (ds : List Demand) where
       up : (i k : ℕ) → lowest_position asks ds i ≤ lowest_position asks ds (i + k)
       up i zero = rw add-zero (omega arith)
       up i (suc k) =
-          let ih : lowest_position asks ds i ≤ lowest_position asks ds (i + k) = up i k in
           let next : lowest_position asks ds (i + k) ≤ lowest_position asks ds (suc (i + k)) = lowest_position-rises (i + k) in
-          rw add-suc (omega arith)
+          rw add-suc (omega (arith, up i k))
 
   module _ (n : ℕ) (table : All (IsInTable n) ds) where
     pub AreBoundaries-lowest_position : AreBoundaries asks n ds (lowest_position asks ds)
@@ -106,23 +96,11 @@ module _ (asks : Demand → ℕ) (ds : List Demand) where
       where
         apart_at : (k : ℕ) (d : Demand) → IsInTable n d → ((i : ℕ) → end_of d ≡ suc i → lowest_position_to asks ds i d.start + asks d ≤ pushed_lower_bound asks ds (lowest_position_to asks ds i) (suc i)) →
             lowest_position asks ds d.start + asks d ≤ lowest_position asks ds (end_of d)
-        apart_at k d cell pushed =
-            let i : ℕ = end_of d - 1 in
-            let one : 1 ≤ d.span = cell.covers_one in
-            let e : end_of d ≡ suc (end_of d - 1) = omega arith in
-            let a : lowest_position_to asks ds (end_of d - 1) d.start + asks d ≤ pushed_lower_bound asks ds (lowest_position_to asks ds (end_of d - 1)) (suc (end_of d - 1)) = pushed (end_of d - 1) e in
-            let b : lowest_position_to asks ds (end_of d - 1) d.start ≡ lowest_position asks ds d.start = lowest_position_to-is (end_of d - 1) d.start (omega arith) in
-            let c : lowest_position asks ds (suc (end_of d - 1)) ≡ max (lowest_position asks ds (end_of d - 1)) (pushed_lower_bound asks ds (lowest_position_to asks ds (end_of d - 1)) (suc (end_of d - 1))) = lowest_position_to-at (end_of d - 1) in
-            let f : lowest_position asks ds (end_of d) ≡ lowest_position asks ds (suc (end_of d - 1)) = ap (lowest_position asks ds) e in
-            omega arith
+        apart_at k d cell pushed = search (rules, lowest_position_to-is, lowest_position_to-at)
 
     push_at : (boundary : ℕ → ℕ) (k : ℕ) → ((i : ℕ) → i ≤ k → lowest_position_to asks ds k i ≤ boundary i) → (d : Demand) → IsInTable n d → boundary d.start + asks d ≤ boundary (end_of d) → end_of d ≡ suc k →
         lowest_position_to asks ds k d.start + asks d ≤ boundary (suc k)
-    push_at boundary k before d cell apart ends =
-        let one : 1 ≤ d.span = cell.covers_one in
-        let ih : lowest_position_to asks ds k d.start ≤ boundary d.start = before d.start (omega arith) in
-        let same : boundary (end_of d) ≡ boundary (suc k) = ap boundary ends in
-        omega arith
+    push_at boundary k before d cell apart ends = grind arith
 
     -- a bound on what is found up to k
     below_to : (boundary : ℕ → ℕ) → AreBoundaries asks n ds boundary → (k : ℕ) → k ≤ n → (i : ℕ) → i ≤ k → lowest_position_to asks ds k i ≤ boundary i
@@ -134,7 +112,6 @@ module _ (asks : Demand → ℕ) (ds : List Demand) where
           let small : k ≤ n = omega arith in
           let at : lowest_position_to asks ds (suc k) (suc k) ≡ max (lowest_position_to asks ds k k) (pushed_lower_bound asks ds (lowest_position_to asks ds k) (suc k)) = lowest_position_to-at k in
           let before : lowest_position_to asks ds k k ≤ boundary k = below_to boundary are k (omega arith) k (omega arith) in
-          let rise : boundary k ≤ boundary (k + 1) = are.rise k (omega arith) in
           let same : boundary (k + 1) ≡ boundary (suc k) = ap boundary (let s : k + 1 ≡ suc k = omega arith in s) in
           let pushed : pushed_lower_bound asks ds (lowest_position_to asks ds k) (suc k) ≤ boundary (suc k) =
           pushed-below asks ds (lowest_position_to asks ds k) (suc k) (boundary (suc k))
@@ -150,18 +127,14 @@ module _ (asks : Demand → ℕ) (ds : List Demand) where
 
 -- there are no two choices of lowest positions
 pub one-lowest : (asks : Demand → ℕ) (n : ℕ) (ds : List Demand) (f g : ℕ → ℕ) → AreLowest asks n ds f → AreLowest asks n ds g → (i : ℕ) → i ≤ n → f i ≡ g i
-one-lowest asks n ds f g is also i l =
-    let a : f i ≤ g i = is.below g also.boundaries i l in
-    let b : g i ≤ f i = also.below f is.boundaries i l in
-    omega arith
+one-lowest asks n ds f g is also i l = omega (arith, is.below g also.boundaries i l, also.below f is.boundaries i l)
 
 -- no sizes that fit have a total below the last of the lowest positions, and those between them are least
 module _ (line : ℕ → Bool) (n : ℕ) (demands : List Demand) (lowest : ℕ → ℕ) (are : AreLowest (net_minimum line) n demands lowest) where
   pub lowest-total : (sizes : List ℕ) → Fits (problem_of_demands line n demands) sizes → lowest n ≤ sum sizes
   lowest-total sizes fits =
       let a : lowest n ≤ boundaries_of sizes n = are.below (boundaries_of sizes) (AreBoundaries-boundaries_of line n demands sizes fits) n (omega arith) in
-      let b : sum (take n sizes) ≡ sum sizes = ap sum (take_whole n sizes fits.one_each) in
-      omega arith
+      omega (arith, ap sum (take_whole n sizes fits.one_each))
 
   pub IsLeast-lowest : All (IsInTable n) demands → IsLeast (problem_of_demands line n demands) (sizes_between n lowest)
   IsLeast-lowest table = record {

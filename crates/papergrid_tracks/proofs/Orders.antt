@@ -31,10 +31,7 @@ Contains-filter test ds d m t = at ds m.0 m.1 m.2
 -- what is in the filter passes, and was there
 pub filter-all : (P : Demand → Type 0) (test : Demand → Bool) (ds : List Demand) → AllByRecursion P ds → AllByRecursion (λ d. (test d ≡ true) × P d) (filter test ds)
 filter-all P test [] all = tt
-filter-all P test (d ∷ ds) all = elim (cases_Bool (test d)) [
-  | inl y ↦ rw y ((y, all.0), filter-all P test ds all.1)
-  | inr n ↦ rw n (filter-all P test ds all.1)
-]
+filter-all P test (d ∷ ds) all = grind (arith, cases_Bool, filter-all P test ds all.1)
 
 ByRecursion-append : (P : Demand → Type 0) (xs ys : List Demand) → AllByRecursion P xs → AllByRecursion P ys → AllByRecursion P (xs ++ ys)
 ByRecursion-append P [] ys all all' = all'

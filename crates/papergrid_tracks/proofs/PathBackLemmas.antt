@@ -1,5 +1,5 @@
 -- The cells of the critical path are those of the one path back from the end.
-use Rattle.std.proofs.Common.{◌≡◌, ◌∙◌, ◌≢◌, ℕ, zero, suc, ◌+◌, ◌-◌, ◌<◌, ◌≤◌, inl, inr, List, [], ◌∷◌, get_or, ◌&&◌, ◌==◌, refl, sym, ap, ap₂, subst, arith, eq-eqb, ne_eqb, Option, Some, None}
+use Rattle.std.proofs.Common.{◌≡◌, ◌∙◌, ◌≢◌, ℕ, zero, suc, ◌+◌, ◌-◌, ◌<◌, ◌≤◌, inl, inr, List, [], ◌∷◌, refl, sym, arith, eq-eqb, ne_eqb, Option, Some, None}
 use Rattle.std.specs.Prelude.{◌↔◌, All, reverse}
 use Rattle.std.proofs.lemmas.Bool.{cases_eq}
 use Rattle.std.proofs.lemmas.List.{reverse-reverse}
@@ -8,7 +8,7 @@ use Rattle.papergrid_tracks.specs.declared.demand.Demand.{Demand}
 use Rattle.papergrid_tracks.specs.Problem.{Problem}
 use Rattle.papergrid_tracks.specs.Ranges.{IsInTable, end_of}
 use Rattle.papergrid_tracks.specs.TrackBoundaries.{AreLowest, net_minimum}
-use Rattle.papergrid_tracks.specs.CriticalPath.{IsCriticalPath, IsFirstTight, IsPathBack, is_tight}
+use Rattle.papergrid_tracks.specs.CriticalPath.{IsCriticalPath, IsFirstTight, IsPathBack}
 use Rattle.papergrid_tracks.specs.ForProofs.Followed.{with_earlier}
 use Rattle.papergrid_tracks.proofs.LowestLemmas.{AreLowest-lowest_position, lowest_position, lowest_position-monotone, lowest_position-rises, one-lowest}
 use Rattle.papergrid_tracks.proofs.CriticalPathLemmas.{critical_path, tight_cell, tight_cell-none, tight_cell-is_tight, tight_cells}
@@ -41,19 +41,10 @@ module _ (problem : Problem) (table : All (IsInTable problem.count) problem.dema
   same-back i j [] le same path = sym same ∙ path
   same-back i j (d ∷ earlier) le same path = let before : end_of d ≤ i = path.0 in (omega arith, path.1 ∙ same, path.2, path.3)
 
-  IsFirstTight-found : (i : ℕ) (d : Demand) → low i < low (suc i) → found_at (suc i) ≡ Some d → IsFirstTight problem low d
-  IsFirstTight-found i d past e =
-      let ends : end_of d ≡ suc i = ends-there i d e in
-      let a : low (end_of d) ≡ low (suc i) = ap (low) ends in
-      let b : low (end_of d - 1) ≡ low i = ap (low) (let k : end_of d - 1 ≡ i = omega arith in k) in
-      record { past = omega arith; first = ap found_at ends ∙ e }
-
   path-found : (i : ℕ) (earlier : ℕ → List Demand) → low i < low (suc i) → ((j : ℕ) → j ≤ i → IsPathBack problem low j (earlier j)) →
       (found : Option Demand) → found_at (suc i) ≡ found → IsPathBack problem low (suc i) (with_earlier found earlier)
   path-found i earlier past ways None e = absurd (tight_cell-none (net_minimum problem.line) problem.demands problem.count table i past e)
-  path-found i earlier past ways (Some d) e =
-      let ends : end_of d ≡ suc i = ends-there i d e in
-      (omega arith, ap (low) ends, IsFirstTight-found i d past e, ways d.start (starts-before i d e))
+  path-found i earlier past ways (Some d) e = grind (arith, ends-there, starts-before)
 
   path-met : (steps i : ℕ) → i ≤ steps → IsPathBack problem low i (met steps i)
   path-met zero zero le = refl
@@ -74,44 +65,22 @@ module _ (problem : Problem) (table : All (IsInTable problem.count) problem.dema
   -- ---- and there is no other
 
   not-past : (i : ℕ) (d : Demand) (earlier : List Demand) → low (suc i) ≡ low i → IsPathBack problem low (suc i) (d ∷ earlier) → end_of d ≤ i
-  not-past i d earlier same path = elim (cases_eq (end_of d) (suc i)) [
-    | inr ne ↦ let before : end_of d ≤ suc i = path.0 in let ne' : end_of d ≢ suc i = ne in omega arith
-    | inl ends ↦
-        let past : low (end_of d - 1) < low (end_of d) = path.2.past in
-        let a : low (end_of d) ≡ low (suc i) = ap (low) ends in
-        let b : low (end_of d - 1) ≡ low i = ap (low) (let k : end_of d - 1 ≡ i = omega arith in k) in
-        absurd (omega arith)
-  ]
+  not-past i d earlier same path = grind (arith, cases_eq)
 
   back-same : (i : ℕ) (cells : List Demand) → low (suc i) ≡ low i → IsPathBack problem low (suc i) cells → IsPathBack problem low i cells
   back-same i [] same path = sym same ∙ path
   back-same i (d ∷ earlier) same path = (not-past i d earlier same path, path.1 ∙ same, path.2, path.3)
 
   ends-past : (i : ℕ) (d : Demand) (earlier : List Demand) → low i < low (suc i) → IsPathBack problem low (suc i) (d ∷ earlier) → found_at (suc i) ≡ Some d
-  ends-past i d earlier past path = elim (cases_eq (end_of d) (suc i)) [
-    | inl ends ↦ ap found_at (sym ends) ∙ path.2.first
-    | inr ne ↦
-        let ne' : end_of d ≢ suc i = ne in
-        let before : end_of d ≤ suc i = path.0 in
-        let le : low (end_of d) ≤ low i = lowest_position-monotone (net_minimum problem.line) problem.demands (end_of d) i (omega arith) in
-        let same : low (end_of d) ≡ low (suc i) = path.1 in
-        absurd (omega arith)
-  ]
+  ends-past i d earlier past path = grind (arith, cases_eq, lowest_position-monotone)
 
   nothing-at_zero : (d : Demand) (earlier : List Demand) → IsPathBack problem low 0 (d ∷ earlier) → ⊥
-  nothing-at_zero d earlier path =
-      let before : end_of d ≤ 0 = path.0 in
-      let past : low (end_of d - 1) < low (end_of d) = path.2.past in
-      let le : low (end_of d) ≤ low (end_of d - 1) = lowest_position-monotone (net_minimum problem.line) problem.demands (end_of d) (end_of d - 1) (omega arith) in
-      omega arith
+  nothing-at_zero d earlier path = grind (arith, lowest_position-monotone)
 
   past-met : (steps i : ℕ) → ((j : ℕ) (cells : List Demand) → j ≤ i → IsPathBack problem low j cells → cells ≡ met steps j) →
       (cells : List Demand) → low i < low (suc i) → IsPathBack problem low (suc i) cells → cells ≡ with_earlier (found_at (suc i)) (met steps)
   past-met steps i only [] past path = let none : low (suc i) ≡ 0 = path in absurd (omega arith)
-  past-met steps i only (d ∷ earlier) past path =
-      let found : found_at (suc i) ≡ Some d = ends-past i d earlier past path in
-      let rest : earlier ≡ met steps d.start = only d.start earlier (starts-before i d found) path.3 in
-      ap (λ cells. d ∷ cells) rest ∙ sym (ap (λ found. with_earlier found (met steps)) found)
+  past-met steps i only (d ∷ earlier) past path = grind (arith, ends-past, starts-before)
 
   only-met : (steps i : ℕ) (cells : List Demand) → i ≤ steps → IsPathBack problem low i cells → cells ≡ met steps i
   only-met zero zero [] le path = refl
@@ -130,31 +99,13 @@ module _ (problem : Problem) (table : All (IsInTable problem.count) problem.dema
       ]
 
   path_back-is : (cells : List Demand) → IsPathBack problem low problem.count (reverse cells) ↔ (cells ≡ critical_path problem)
-  path_back-is cells = (
-    (λ path. sym (reverse-reverse cells) ∙ ap reverse (only-met problem.count problem.count (reverse cells) (omega arith) path)),
-    (λ e. subst (IsPathBack problem low problem.count) (sym (ap reverse e ∙ reverse-reverse (met problem.count problem.count))) (path-met problem.count problem.count (omega arith))),
-  )
+  path_back-is cells = grind (arith, reverse-reverse, only-met, path-met)
 
   -- ---- and it is so by whatever positions are the lowest
 
   module _ (f g : ℕ → ℕ) (same : (i : ℕ) → i ≤ problem.count → f i ≡ g i) where
-    tight-same : (i : ℕ) → i ≤ problem.count → (d : Demand) → is_tight (net_minimum problem.line) g i d ≡ is_tight (net_minimum problem.line) f i d
-    tight-same i le d = elim (cases_eq (end_of d) i) [
-      | inr ne ↦ rw (ne_eqb (end_of d) i ne) refl
-      | inl ends ↦
-          let before : d.start ≤ problem.count = omega arith in
-          ap₂ (λ a b. end_of d == i && (a + net_minimum problem.line d == b)) (sym (same d.start before)) (sym (same i le))
-    ]
-
     first-same : (d : Demand) → end_of d ≤ problem.count → IsFirstTight problem f d → IsFirstTight problem g d
-    first-same d le is =
-        let past : f (end_of d - 1) < f (end_of d) = is.past in
-        let a : f (end_of d - 1) ≡ g (end_of d - 1) = same (end_of d - 1) (omega arith) in
-        let b : f (end_of d) ≡ g (end_of d) = same (end_of d) le in
-        record {
-          past = omega arith;
-          first = find-agree (is_tight (net_minimum problem.line) g (end_of d)) (is_tight (net_minimum problem.line) f (end_of d)) problem.demands (λ k e l. tight-same (end_of d) le (get_or problem.demands k e)) ∙ is.first;
-        }
+    first-same d le is = grind (arith, find-agree)
 
     path-same : (i : ℕ) (cells : List Demand) → i ≤ problem.count → IsPathBack problem f i cells → IsPathBack problem g i cells
     path-same i [] le path = sym (same i le) ∙ path

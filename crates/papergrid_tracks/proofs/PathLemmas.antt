@@ -3,7 +3,7 @@ use Rattle.std.proofs.Common.{◌≡◌, ℕ, Bool, ◌&&◌, ◌==◌, ◌+◌,
 use Rattle.std.specs.Prelude.{All, Contains, find, not, reverse, unwrap_or}
 use Rattle.std.proofs.lemmas.Bool.{and_parts, cases_eq, cases_lt}
 use Rattle.std.proofs.lemmas.List.{get_or_past, map-append, reverse-append}
-use Rattle.std.proofs.lemmas.List.Elements.{All-contains, All-contains_itself, All-filter, recursion_from_All}
+use Rattle.std.proofs.lemmas.List.Elements.{All-contains_itself, All-filter, recursion_from_All}
 use Rattle.papergrid_tracks.specs.declared.demand.Demand.{Demand}
 use Rattle.papergrid_tracks.specs.declared.demands.Demands.{Demands}
 use Rattle.papergrid_tracks.specs.ForProofs.Demands.{AreGathered, StandInOrder, first_greatest, is_single, no_demand, rest_of}
@@ -73,10 +73,7 @@ module _ (problem : Problem) (kept : Demands) (is : AreGathered problem.count ke
   table-lines = table-wider problem.count (length lines) kept.rest.items (let e : length lines ≡ problem.count + 1 = are.lined in omega arith) table-longer
 
   pub ends-boundaries : All (λ d. end_of d < length boundaries) kept.rest.items
-  ends-boundaries k d l =
-      let le : end_of (get_or kept.rest.items k d) ≤ problem.count = (table-longer k d l).ends_within in
-      let many : length boundaries ≡ problem.count + 1 = are.many in
-      omega arith
+  ends-boundaries k d l = grind (arith, table-longer)
 
   pub apart-boundaries : All (λ d. boundary d.start + net_minimum drawn d ≤ boundary (end_of d)) kept.rest.items
   apart-boundaries =
@@ -96,12 +93,7 @@ module _ (problem : Problem) (kept : Demands) (is : AreGathered problem.count ke
           omega arith
 
   pub alone-boundaries : (i : ℕ) → i + 1 < length boundaries → (kept_single kept.single_span.items i).start ≤ i
-  alone-boundaries i l =
-      let many : length boundaries ≡ problem.count + 1 = are.many in
-      let from : problem.count ≤ is.limit = is.from_limit in
-      let same_start : (kept_single kept.single_span.items i).start ≡ (first_greatest i problem.demands).start = ap (λ (d : Demand). d.start) (is.held.single_span small i (omega arith)) in
-      let starts : (first_greatest i problem.demands).start ≤ i = starts-first_greatest i problem.demands in
-      omega arith
+  alone-boundaries i l = grind (arith, starts-first_greatest)
 
   module _ (tight_cells : List (Option Demand)) (same : length tight_cells ≡ length boundaries)
       (first : (i : ℕ) → i < length tight_cells → get_or tight_cells i None ≡ find (is_tight (net_minimum drawn) boundary i) kept.rest.items) where
@@ -112,11 +104,7 @@ module _ (problem : Problem) (kept : Demands) (is : AreGathered problem.count ke
     ]
       where
         within : Contains kept.rest.items d → d.start < length boundaries
-        within listed =
-            let cell : IsInTable problem.count d = All-contains (IsInTable problem.count) kept.rest.items d table-longer listed in
-            let le : end_of d ≤ problem.count = cell.ends_within in
-            let many : length boundaries ≡ problem.count + 1 = are.many in
-            omega arith
+        within listed = grind (arith, table-longer)
 
     pub critical_path-met : StandInOrder problem.demands → reverse (map position_of (followed_cells boundary (kept_single kept.single_span.items) (kept_longer tight_cells) (length boundaries - 1) (length boundaries - 1))) ≡ map position_of (critical_path problem)
     critical_path-met in_order =

@@ -1,5 +1,5 @@
 -- Disjoint ranges split a total into their own sums and what lies outside of them.
-use Rattle.std.proofs.Common.{◌≡◌, ℕ, zero, suc, ◌+◌, ◌-◌, ◌<◌, ◌≤◌, Bool, true, false, cond, ◌⊎◌, inl, inr, List, [], ◌∷◌, sum_by, refl, sym, ap, ◌∙◌, arith}
+use Rattle.std.proofs.Common.{◌≡◌, ℕ, zero, suc, ◌+◌, ◌-◌, ◌<◌, ◌≤◌, Bool, true, false, cond, ◌⊎◌, inl, inr, List, [], ◌∷◌, sum_by, refl, arith}
 use Rattle.std.specs.Prelude.{AllPairs, ⊤}
 use Rattle.std.specs.List.{AllByRecursion, list_any}
 use Rattle.std.proofs.lemmas.List.Sums.{sum_by-cons}
@@ -14,25 +14,17 @@ abbrev pub masked : (ℕ → ℕ) → Demand → ℕ → ℕ
 masked f d i = cond (holds d i) (f i) 0
 
 pub masked_in : (f : ℕ → ℕ) (d : Demand) (i : ℕ) → d.start ≤ i → i < end_of d → masked f d i ≡ f i
-masked_in f d i l l' = elim (holds_cases d i) [
-  | inl h ↦ ap (λ b. cond b (f i) 0) h.0
-  | inr h ↦ absurd (elim h.1 [ inl x ↦ omega arith | inr x ↦ omega arith ])
-]
+masked_in f d i l l' = grind (arith, holds_cases)
 
 pub masked_out : (f : ℕ → ℕ) (d : Demand) (i : ℕ) → (i < d.start) ⊎ (end_of d ≤ i) → masked f d i ≡ 0
-masked_out f d i out = elim (holds_cases d i) [
-  | inl h ↦ absurd (elim out [ inl x ↦ omega arith | inr x ↦ omega arith ])
-  | inr h ↦ ap (λ b. cond b (f i) 0) h.0
-]
+masked_out f d i out = grind (arith, holds_cases)
 
 pub masked_sum : (f : ℕ → ℕ) (d : Demand) (n : ℕ) → end_of d ≤ n → upto (masked f d) n ≡ within f d
 masked_sum f d n le =
     let r : ℕ = n - end_of d in
     let e : n ≡ d.start + (d.span + r) = omega arith in
-    let a : upto (masked f d) (d.start + (d.span + r)) ≡ upto (masked f d) d.start + upto (λ i. masked f d (d.start + i)) (d.span + r) =
-    upto-split (masked f d) d.start (d.span + r) in
-    let b : upto (λ i. masked f d (d.start + i)) (d.span + r) ≡ upto (λ i. masked f d (d.start + i)) d.span + upto (λ i. masked f d (d.start + (d.span + i))) r =
-    upto-split (λ i. masked f d (d.start + i)) d.span r in
+    let a = upto-split (masked f d) d.start (d.span + r) in
+    let b = upto-split (λ i. masked f d (d.start + i)) d.span r in
     let before : upto (masked f d) d.start ≡ 0 = upto-zero (masked f d) d.start (λ i l. masked_out f d i (inl l)) in
     let after : upto (λ i. masked f d (d.start + (d.span + i))) r ≡ 0 =
     upto-zero (λ i. masked f d (d.start + (d.span + i))) r (λ i l. masked_out f d (d.start + (d.span + i)) (inr (omega arith))) in
@@ -68,35 +60,21 @@ abbrev pub outside : List Demand → (ℕ → ℕ) → ℕ → ℕ
 outside ds f i = cond (covered ds i) 0 (f i)
 
 pub not_both : (a b : Demand) (i : ℕ) → AreDisjoint a b → holds a i ≡ true → holds b i ≡ false
-not_both a b i disjoint h = elim (holds_cases b i) [
-  | inr y ↦ y.0
-  | inl y ↦ elim (holds_cases a i) [
-    | inr x ↦ absurd (false≢true (sym x.0 ∙ h))
-    | inl x ↦ absurd (elim disjoint [ inl l ↦ omega arith | inr l ↦ omega arith ])
-  ]
-]
+not_both a b i disjoint h = grind (arith, holds_cases, false≢true)
 
 pub not_covered : (a : Demand) (ds : List Demand) (i : ℕ) → AllByRecursion (AreDisjoint a) ds → holds a i ≡ true → covered ds i ≡ false
 not_covered a [] i disjoint h = refl
 not_covered a (d ∷ ds) i disjoint h = or_from (holds d i) (covered ds i) (not_both a d i disjoint.0 h) (not_covered a ds i disjoint.1 h)
 
 outside-cons : (f : ℕ → ℕ) (d : Demand) (ds : List Demand) (i : ℕ) → AllByRecursion (AreDisjoint d) ds → outside ds f i ≡ masked f d i + outside (d ∷ ds) f i
-outside-cons f d ds i disjoint = elim (holds_cases d i) [
-  | inl h ↦
-      let c : covered ds i ≡ false = not_covered d ds i disjoint h.0 in
-      rw (c, h.0) (omega arith)
-  | inr h ↦ rw h.0 (omega arith)
-]
+outside-cons f d ds i disjoint = grind (arith, holds_cases, not_covered)
 
 -- the total is the sums of disjoint ranges and what lies outside
 pub partition : (f : ℕ → ℕ) (n : ℕ) (ds : List Demand) → AllByRecursion (λ d. end_of d ≤ n) ds → ArePairwiseDisjoint ds → upto f n ≡ sum_by (within f) ds + upto (outside ds f) n
 partition f n [] inside disjoint = omega arith
 partition f n (d ∷ ds) inside disjoint =
-    let e : upto f n ≡ sum_by (within f) ds + upto (outside ds f) n = partition f n ds inside.1 disjoint.1 in
     let a : upto (outside ds f) n ≡ upto (λ i. masked f d i + outside (d ∷ ds) f i) n =
     upto-ext (outside ds f) (λ i. masked f d i + outside (d ∷ ds) f i) n (λ i l. outside-cons f d ds i disjoint.0) in
     let b : upto (λ i. masked f d i + outside (d ∷ ds) f i) n ≡ upto (masked f d) n + upto (outside (d ∷ ds) f) n =
     upto-add (masked f d) (outside (d ∷ ds) f) n in
-    let c : upto (masked f d) n ≡ within f d = masked_sum f d n inside.0 in
-    let s : sum_by (within f) (d ∷ ds) ≡ within f d + sum_by (within f) ds = sum_by-cons (within f) d ds in
-    omega arith
+    omega (arith, partition f n ds inside.1 disjoint.1, masked_sum f d n inside.0, sum_by-cons (within f) d ds)

@@ -1,5 +1,5 @@
 -- One step: what the sizes are after a cell was taken.
-use Rattle.std.proofs.Common.{◌≡◌, ℕ, zero, suc, ◌+◌, ◌-◌, ◌*◌, ◌/◌, ◌%◌, ◌<◌, ◌≤◌, ◌≢◌, Bool, ◌⊎◌, inl, inr, List, length, get_or, refl, ap, ◌∙◌, arith, suc-mul, eq-eqb, ne_eqb}
+use Rattle.std.proofs.Common.{◌≡◌, ℕ, zero, suc, ◌+◌, ◌-◌, ◌*◌, ◌/◌, ◌%◌, ◌<◌, ◌≤◌, Bool, ◌⊎◌, List, length, get_or, refl, ap, ◌∙◌, arith, suc-mul, eq-eqb, rules}
 use Rattle.std.proofs.lemmas.List.FromFn.{get_or-map-range_with_len, length-map-range_with_len}
 use Rattle.papergrid_tracks.specs.declared.demand.Demand.{Demand}
 use Rattle.papergrid_tracks.specs.Ranges.{end_of, inner_lines}
@@ -22,18 +22,10 @@ pub share-first : (amount : ℕ) (d : Demand) (i : ℕ) → i ≡ d.start → sh
 share-first amount d i e = rw (eq-eqb i d.start e) refl
 
 pub share-later : (amount : ℕ) (d : Demand) (i : ℕ) → d.start < i → i < end_of d → share amount d i ≡ amount / d.span
-share-later amount d i l l' = elim (holds_cases d i) [
-  | inl h ↦ let ne : i ≢ d.start = omega arith in rw (ne_eqb i d.start ne, h.0) refl
-  | inr h ↦ absurd (elim h.1 [ inl x ↦ omega arith | inr x ↦ omega arith ])
-]
+share-later amount d i l l' = grind (arith, holds_cases)
 
 pub share-out : (amount : ℕ) (d : Demand) (i : ℕ) → 1 ≤ d.span → (i < d.start) ⊎ (end_of d ≤ i) → share amount d i ≡ 0
-share-out amount d i one out =
-    let ne : i ≢ d.start = elim out [ inl x ↦ omega arith | inr x ↦ omega arith ] in
-    elim (holds_cases d i) [
-      | inl h ↦ absurd (elim out [ inl x ↦ omega arith | inr x ↦ omega arith ])
-      | inr h ↦ rw (ne_eqb i d.start ne, h.0) refl
-    ]
+share-out amount d i one out = grind (arith, holds_cases)
 
 upto-same : (q k : ℕ) → upto (λ i. q) k ≡ k * q
 upto-same q zero = omega arith
@@ -43,9 +35,7 @@ upto-same q (suc k) = let e : upto (λ i. q) k ≡ k * q = upto-same q k in let 
 pub distributed_sum : (amount : ℕ) (d : Demand) → 1 ≤ d.span → within (share amount d) d ≡ amount
 distributed_sum amount d one =
     let k : ℕ = d.span - 1 in
-    let q : ℕ = amount / d.span in
     let e : d.span ≡ 1 + k = omega arith in
-    let f : ℕ → ℕ = λ i. share amount d (d.start + i) in
     let a : upto (λ i. share amount d (d.start + i)) d.span ≡ upto (λ i. share amount d (d.start + i)) (1 + k) = ap (upto (λ i. share amount d (d.start + i))) e in
     let b : upto (λ i. share amount d (d.start + i)) (1 + k) ≡ share amount d (d.start + 0) + upto (λ i. share amount d (d.start + (1 + i))) k =
     upto-split (λ i. share amount d (d.start + i)) 1 k ∙ (omega arith) in
@@ -53,7 +43,6 @@ distributed_sum amount d one =
     let later : upto (λ i. share amount d (d.start + (1 + i))) k ≡ upto (λ i. amount / d.span) k =
     upto-ext (λ i. share amount d (d.start + (1 + i))) (λ i. amount / d.span) k (λ i l. share-later amount d (d.start + (1 + i)) (omega arith) (omega arith)) in
     let same : upto (λ i. amount / d.span) k ≡ k * (amount / d.span) = upto-same (amount / d.span) k in
-    let whole : d.span * (amount / d.span) + amount % d.span ≡ amount = omega arith in
     let product : suc k * (amount / d.span) ≡ k * (amount / d.span) + amount / d.span = suc-mul k (amount / d.span) in
     let e' : d.span * (amount / d.span) ≡ suc k * (amount / d.span) = ap (λ m. m * (amount / d.span)) (let e' : d.span ≡ suc k = omega arith in e') in
     omega arith
@@ -67,37 +56,25 @@ within-grown line sizes d e le =
     let c : within (λ i. get_or (grown_sizes line sizes d) i 0) e ≡ within (λ i. get_or sizes i 0 + share (deficit line sizes d) d i) e =
     upto-ext (λ i. get_or (grown_sizes line sizes d) (e.start + i) 0) (λ i. get_or sizes (e.start + i) 0 + share (deficit line sizes d) d (e.start + i)) e.span
     (λ i l. get_or-grown line sizes d (e.start + i) (omega arith)) in
-    let s : within (λ i. get_or sizes i 0 + share (deficit line sizes d) d i) e ≡ within (λ i. get_or sizes i 0) e + within (share (deficit line sizes d) d) e =
-    upto-add (λ i. get_or sizes (e.start + i) 0) (λ i. share (deficit line sizes d) d (e.start + i)) e.span in
+    let s = upto-add (λ i. get_or sizes (e.start + i) 0) (λ i. share (deficit line sizes d) d (e.start + i)) e.span in
     omega arith
 
 pub range_sum-grown_self : (line : ℕ → Bool) (sizes : List ℕ) (d : Demand) → 1 ≤ d.span → end_of d ≤ length sizes →
     range_sum (grown_sizes line sizes d) d ≡ range_sum sizes d + deficit line sizes d
-range_sum-grown_self line sizes d one le =
-    let a : range_sum (grown_sizes line sizes d) d ≡ range_sum sizes d + within (share (deficit line sizes d) d) d = within-grown line sizes d d le in
-    let b : within (share (deficit line sizes d) d) d ≡ deficit line sizes d = distributed_sum (deficit line sizes d) d one in
-    omega arith
+range_sum-grown_self line sizes d one le = search (rules, within, within-grown, distributed_sum)
 
 pub range_sum-grown_le : (line : ℕ → Bool) (sizes : List ℕ) (d e : Demand) → end_of e ≤ length sizes →
     range_sum sizes e ≤ range_sum (grown_sizes line sizes d) e
-range_sum-grown_le line sizes d e le =
-    let a : range_sum (grown_sizes line sizes d) e ≡ range_sum sizes e + within (share (deficit line sizes d) d) e = within-grown line sizes d e le in
-    omega arith
+range_sum-grown_le line sizes d e le = search (rules, within, within-grown)
 
 -- a cell with room keeps it, and the cell that is taken gets it
 pub HasRoom-kept : (line : ℕ → Bool) (sizes : List ℕ) (d e : Demand) → end_of e ≤ length sizes → HasRoom line sizes e → HasRoom line (grown_sizes line sizes d) e
-HasRoom-kept line sizes d e le room =
-    let a : range_sum sizes e ≤ range_sum (grown_sizes line sizes d) e = range_sum-grown_le line sizes d e le in
-    omega arith
+HasRoom-kept line sizes d e le room = search (rules, range_sum-grown_le)
 
 pub HasRoom-grown : (line : ℕ → Bool) (sizes : List ℕ) (d : Demand) → 1 ≤ d.span → end_of d ≤ length sizes → HasRoom line (grown_sizes line sizes d) d
-HasRoom-grown line sizes d one le =
-    let a : range_sum (grown_sizes line sizes d) d ≡ range_sum sizes d + deficit line sizes d = range_sum-grown_self line sizes d one le in
-    omega arith
+HasRoom-grown line sizes d one le = search (rules, range_sum-grown_self)
 
 -- a cell that grows has no more than its minimum size afterwards
 pub tight-grown : (line : ℕ → Bool) (sizes : List ℕ) (d : Demand) → 1 ≤ d.span → end_of d ≤ length sizes → 0 < deficit line sizes d →
     d.minimum ≡ range_sum (grown_sizes line sizes d) d + inner_lines line d
-tight-grown line sizes d one le grows =
-    let a : range_sum (grown_sizes line sizes d) d ≡ range_sum sizes d + deficit line sizes d = range_sum-grown_self line sizes d one le in
-    omega arith
+tight-grown line sizes d one le grows = search (rules, range_sum-grown_self)

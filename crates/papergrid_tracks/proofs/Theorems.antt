@@ -1,5 +1,5 @@
 -- What holds of the sizes along a direction.
-use Rattle.std.proofs.Common.{◌≡◌, ℕ, ◌+◌, ◌<◌, ◌≤◌, List, [], ◌∷◌, length, get_or, sum, arith, refl, sym, subst, inl, inr, le-ltb}
+use Rattle.std.proofs.Common.{◌≡◌, ℕ, ◌<◌, ◌≤◌, List, [], ◌∷◌, length, get_or, arith, refl, sym, subst, le-ltb}
 use Rattle.std.specs.Prelude.{All, Contains, None}
 use Rattle.std.specs.List.{AllByRecursion}
 use Rattle.std.proofs.lemmas.Bool.{cases_lt}
@@ -7,7 +7,6 @@ use Rattle.std.proofs.lemmas.List.Elements.{All-contains, All-weaker, All-from_r
 use Rattle.papergrid_tracks.proofs.BySizing.{AreSizes, AreSizesTooLarge}
 use Rattle.papergrid_tracks.specs.declared.demand.Demand.{Demand}
 use Rattle.papergrid_tracks.specs.Problem.{Problem, total_of}
-use Rattle.papergrid_values.specs.Lines.{all_lines}
 use Rattle.papergrid_tracks.specs.Ranges.{IsInTable, IsLaminar, end_of, first_out}
 use Rattle.papergrid_tracks.specs.Fits.{Fits, IsLeast, IsTooLarge, IsCertificate, top_minimum}
 use Rattle.papergrid_tracks.specs.Sizes.{base_sizes, by_span, sizes_of}
@@ -42,11 +41,7 @@ module _ (problem : Problem) (table : All (IsInTable problem.count) problem.dema
   -- no table was refused that another choice of sizes could have held
   pub others_too_large-sizes_of : IsLaminar problem.demands → IsTooLarge problem (sizes_of problem) →
       (other : List ℕ) → Fits problem other → IsTooLarge problem other
-  others_too_large-sizes_of disjoint large other fits =
-      let le : sum (sizes_of problem) ≤ sum other = (IsLeast-sizes_of disjoint).least other fits in
-      let past : 18446744073709551616 ≤ total_of problem (sizes_of problem) = large in
-      let all : 18446744073709551616 ≤ sum other + all_lines problem.line problem.count = omega arith in
-      all
+  others_too_large-sizes_of disjoint large other fits = (omega (arith, (IsLeast-sizes_of disjoint).least other fits))
 
   -- the cells that are taken are cells of the table
   pub table-by_span : All (IsInTable problem.count) (by_span problem.count problem.demands)
@@ -77,14 +72,4 @@ module _ (problem : Problem) (table : All (IsInTable problem.count) problem.dema
   }
 
   pub AreSizesTooLarge-sizes_of : (total_of problem (sizes_of problem) < 18446744073709551616 → ⊥) → AreSizesTooLarge problem
-  AreSizesTooLarge-sizes_of not_small =
-      let large : IsTooLarge problem (sizes_of problem) = elim (cases_lt (total_of problem (sizes_of problem)) 18446744073709551616) [
-        | inl small ↦ absurd (not_small small)
-        | inr le ↦ le
-      ] in
-      record {
-        table = table;
-        none_out = none_out;
-        too_large = λ sizes exact. subst (IsTooLarge problem) (sym exact) large;
-        others_too_large = λ disjoint other fits. others_too_large-sizes_of disjoint large other fits;
-      }
+  AreSizesTooLarge-sizes_of not_small = grind (arith, cases_lt, none_out, others_too_large-sizes_of)

@@ -77,14 +77,7 @@ module _ (line drawn : ℕ → Bool) (n limit : ℕ) (demands : List Demand) (ag
 
   -- a cell that covers j alone and is tight at the next boundary needs what lies between the two
   alone : (j : ℕ) (d : Demand) → d.span ≡ 1 → is_tight (net_minimum line) top (suc j) d ≡ true → (d.start ≡ j) × (top j + d.minimum ≡ top (suc j))
-  alone j d one pushed =
-      let parts : (eqb (end_of d) (suc j) ≡ true) × (eqb (top d.start + net_minimum line d) (top (suc j)) ≡ true) = and_parts (eqb (end_of d) (suc j)) (eqb (top d.start + net_minimum line d) (top (suc j))) pushed in
-      let ends : end_of d ≡ suc j = eqb-true _ _ parts.0 in
-      let here : d.start ≡ j = omega arith in
-      let sum : top d.start + net_minimum line d ≡ top (suc j) = eqb-true _ _ parts.1 in
-      let inner : inner_lines line d ≡ 0 = inner-alone line d one in
-      let e : top d.start ≡ top j = ap top here in
-      (here, omega arith)
+  alone j d one pushed = grind (arith, and_parts, eqb-true, inner-alone)
 
   no_single : (j : ℕ) → j < n → top j + base_size demands j ≢ top (suc j) → single_tight_cell (net_minimum line) demands (suc j) ≡ None
   no_single j l ne =
@@ -156,10 +149,7 @@ module _ (line drawn : ℕ → Bool) (n limit : ℕ) (demands : List Demand) (ag
         (filter-all (IsInTable n) (λ d. not (is_single limit d)) demands (recursion_from_All (IsInTable n) demands table)) k d l'))
       where
         kept : (d : Demand) → (nat_lt 1 d.span && is_tight (net_minimum line) top i d) ≡ true → not (is_single limit d) ≡ true
-        kept d t =
-            let long : 1 < d.span = ltb-true 1 d.span (and_parts (nat_lt 1 d.span) (is_tight (net_minimum line) top i d) t).0 in
-            let ne : d.span ≢ 1 = omega arith in
-            rw (ne_eqb d.span 1 ne) refl
+        kept d t = grind (arith, ltb-true, and_parts)
 
         at : (d : Demand) → IsInTable n d → not (is_single limit d) ≡ true → (nat_lt 1 d.span && is_tight (net_minimum line) top i d) ≡ is_tight (net_minimum drawn) boundary i d
         at d cell passes = elim (cases_eq d.span 1) [
@@ -181,35 +171,14 @@ module _ (line drawn : ℕ → Bool) (n limit : ℕ) (demands : List Demand) (ag
     module _ (single_span : ℕ → Demand) (single_span_are : (i : ℕ) → i < limit → single_span i ≡ first_greatest i demands)
         (longer : ℕ → Option Demand) (longer_are : (i : ℕ) → i ≤ n → longer i ≡ find (is_tight (net_minimum drawn) boundary i) (rest_of limit demands)) where
       tight_cells-even : (steps j : ℕ) → top (suc j) ≡ top j → tight_cells (net_minimum line) demands (suc steps) (suc j) ≡ tight_cells (net_minimum line) demands steps j
-      tight_cells-even steps j same =
-          let e : suc j - 1 ≡ j = omega arith in
-          rw (e, eq-eqb (top (suc j)) (top j) same) refl
+      tight_cells-even steps j same = grind (arith, eq-eqb)
 
       tight_cells-past : (steps j : ℕ) → top (suc j) ≢ top j → tight_cells (net_minimum line) demands (suc steps) (suc j) ≡ with_earlier (tight_cell (net_minimum line) demands (suc j)) (tight_cells (net_minimum line) demands steps)
-      tight_cells-past steps j ne =
-          let e : suc j - 1 ≡ j = omega arith in
-          rw (e, ne_eqb (top (suc j)) (top j) ne) refl
+      tight_cells-past steps j ne = grind arith
 
       -- of each kind what is kept is the first that is tight at the boundary
       single-kept : (j : ℕ) → j < n → top j < top (suc j) → with_minimum (boundary (suc j) - boundary (suc j - 1)) (single_span (suc j - 1)) ≡ single_tight_cell (net_minimum line) demands (suc j)
-      single-kept j l past =
-          let e : suc j - 1 ≡ j = omega arith in
-          let a : boundary (suc j) ≡ top (suc j) = boundaries_are (suc j) l in
-          let b : boundary j ≡ top j = boundaries_are j (omega arith) in
-          let b' : boundary (suc j - 1) ≡ boundary j = ap boundary e in
-          let fits : top j + base_size demands j ≤ top (suc j) = base-fits j l in
-          let kept : single_span (suc j - 1) ≡ first_greatest j demands = ap single_span e ∙ single_span_are j (omega arith) in
-          let minimum : (single_span (suc j - 1)).minimum ≡ base_size demands j = ap (λ (d : Demand). d.minimum) kept ∙ minimum-first_greatest j demands in
-          elim (cases_eq (top j + base_size demands j) (top (suc j))) [
-            | inl most ↦
-                let step : (single_span (suc j - 1)).minimum ≡ boundary (suc j) - boundary (suc j - 1) = omega arith in
-                let found : with_minimum (boundary (suc j) - boundary (suc j - 1)) (single_span (suc j - 1)) ≡ Some (single_span (suc j - 1)) = rw (eq-eqb (single_span (suc j - 1)).minimum (boundary (suc j) - boundary (suc j - 1)) step) refl in
-                found ∙ ap Some kept ∙ sym (single j l past most)
-            | inr less ↦
-                let step : (single_span (suc j - 1)).minimum ≢ boundary (suc j) - boundary (suc j - 1) = omega arith in
-                let found : with_minimum (boundary (suc j) - boundary (suc j - 1)) (single_span (suc j - 1)) ≡ None = rw (ne_eqb (single_span (suc j - 1)).minimum (boundary (suc j) - boundary (suc j - 1)) step) refl in
-                found ∙ sym (no_single j l less)
-          ]
+      single-kept j l past = grind (arith, base-fits, minimum-first_greatest, cases_eq, eq-eqb, single, no_single)
 
       tight_cell-kept : (j : ℕ) → j < n → top j < top (suc j) → earlier_cell (with_minimum (boundary (suc j) - boundary (suc j - 1)) (single_span (suc j - 1))) (longer (suc j)) ≡ tight_cell (net_minimum line) demands (suc j)
       tight_cell-kept j l past =
@@ -218,8 +187,7 @@ module _ (line drawn : ℕ → Bool) (n limit : ℕ) (demands : List Demand) (ag
 
       pub followed-is : (steps i : ℕ) → i ≤ n → followed_cells boundary single_span longer steps i ≡ tight_cells (net_minimum line) demands steps i
       followed-is zero i l = refl
-      followed-is (suc steps) zero l =
-          followed-even boundary single_span longer steps 0 (omega arith) ∙ followed-is steps 0 (omega arith)
+      followed-is (suc steps) zero l = grind (arith, followed-even, followed-is steps 0 (omega arith))
       followed-is (suc steps) (suc j) l =
           let e : suc j - 1 ≡ j = omega arith in
           let a : boundary (suc j) ≡ top (suc j) = boundaries_are (suc j) l in

@@ -22,7 +22,7 @@ module _ (problem : Problem) (lowest : ℕ → ℕ) where
   IsPathBack i (d ∷ earlier) =
       (end_of d ≤ i) × (lowest (end_of d) ≡ lowest i) × IsFirstTight d × IsPathBack d.start earlier
 
--- the cells of a critical path, by the starts of their ranges
+-- the cells of a critical path, by the starts of their ranges: a path back by the lowest positions
 pub record IsCriticalPath (problem : Problem) (cells : List Demand) : Type 0 where
   pub lowest : ℕ → ℕ
   pub are_lowest : AreLowest (net_minimum problem.line) problem.count problem.demands lowest

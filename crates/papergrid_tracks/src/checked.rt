@@ -197,7 +197,7 @@ pub fn visit<A: Axis>(
 
 /// Whether a visit changed nothing.
 pub fn is_unchanged(before: Checked, after: Checked) -> bool
-    ensures { IsTrue result → after ≡ before }
+    ensures { IsTrue result ↔ (after ≡ before) }
 {
     if before.holds != after.holds {
         return false;

@@ -1,5 +1,5 @@
 -- A test that some entry of a map passes.
-use Rattle.std.proofs.Common.{◌≡◌, ℕ, suc, Bool, true, false, cond, List, [], ◌∷◌, Option, Some, refl, ap, subst}
+use Rattle.std.proofs.Common.{◌≡◌, ℕ, suc, Bool, true, false, cond, List, [], ◌∷◌, Option, Some, refl, ap, arith}
 use Rattle.std.specs.Prelude.{◌||◌, IsSome, is_some}
 use Rattle.std.specs.List.{list_any, slice_get, IsDistinct}
 use Rattle.std.specs.Cmp.{IsEquivalence}
@@ -22,9 +22,7 @@ module _ {K X : Type 0} {E : K → K → Bool} (laws : IsEquivalence E) (test : 
   any_found distinct h = let r = any_index test es h in (r.1.0, r.1.1, lookup_from_place laws es r.0 r.1.0 r.1.1 distinct r.2, r.3)
 
   pub any_from_found : ((x y : K) → E x y ≡ true → x ≡ y) → (k : K) (v : X) → lookup (E k) es ≡ Some v → test (k, v) ≡ true → list_any test es ≡ true
-  any_from_found exact k v h passes =
-      let r = place_from_lookup (E k) es v h in
-      any_passes_from_place test es r.0 (r.1, v) r.2 (subst (λ x. test (x, v) ≡ true) (exact k r.1 r.3) passes)
+  any_from_found exact k v h passes = grind (arith, place_from_lookup, any_passes_from_place)
 
 -- some key passes
 pub some_key : {K X : Type 0} {E : K → K → Bool} (laws : IsEquivalence E) (test : K → Bool) (es : List (K × X)) → list_any test (keys_of es) ≡ true → (k : K) × (test k ≡ true) × IsSome (lookup (E k) es)

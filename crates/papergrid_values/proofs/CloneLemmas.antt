@@ -1,5 +1,5 @@
 -- Borders of clones, where clones equal their originals.
-use Rattle.std.proofs.Common.{◌≡◌, ap, Bor}
+use Rattle.std.proofs.Common.{◌≡◌, ap, Bor, arith}
 use Rattle.std.specs.Prelude.{Option, Some, None, MatchOption, IsSomeAnd, option_copied}
 use Rattle.std.specs.List.{AllZip}
 use Rattle.papergrid_values.specs.Borders.{border_parts, frame_parts}
@@ -20,33 +20,8 @@ lent_part R (Some x) (Some y) same clones = ap Some (same x.now y clones)
 module _ {T : Type 0} (O : Option T → Option T → Type 0) (same : (x y : Option T) → O x y → y ≡ x) where
   -- a border whose parts O relates
   pub cloned_border : (x y : Border T) → AllZip O (border_parts x) (border_parts y) → y ≡ x
-  cloned_border x y (t, (b, (l, (r, (lt, (lb, (rt, (rb, _)))))))) = λ i. record {
-    top = same _ _ t i;
-    bottom = same _ _ b i;
-    left = same _ _ l i;
-    right = same _ _ r i;
-    left_top_corner = same _ _ lt i;
-    left_bottom_corner = same _ _ lb i;
-    right_top_corner = same _ _ rt i;
-    right_bottom_corner = same _ _ rb i;
-  }
+  cloned_border x y (t, (b, (l, (r, (lt, (lb, (rt, (rb, _)))))))) = grind arith
 
   -- the same of a frame
   pub cloned_frame : (x y : Borders T) → AllZip O (frame_parts x) (frame_parts y) → y ≡ x
-  cloned_frame x y (p0, (p1, (p2, (p3, (p4, (p5, (p6, (p7, (p8, (p9, (p10, (p11, (p12, (p13, (p14, _))))))))))))))) = λ i. record {
-    top = same _ _ p0 i;
-    top_left = same _ _ p1 i;
-    top_right = same _ _ p2 i;
-    top_intersection = same _ _ p3 i;
-    bottom = same _ _ p4 i;
-    bottom_left = same _ _ p5 i;
-    bottom_right = same _ _ p6 i;
-    bottom_intersection = same _ _ p7 i;
-    horizontal = same _ _ p8 i;
-    vertical = same _ _ p9 i;
-    intersection = same _ _ p10 i;
-    left = same _ _ p11 i;
-    left_intersection = same _ _ p12 i;
-    right = same _ _ p13 i;
-    right_intersection = same _ _ p14 i;
-  }
+  cloned_frame x y (p0, (p1, (p2, (p3, (p4, (p5, (p6, (p7, (p8, (p9, (p10, (p11, (p12, (p13, (p14, _))))))))))))))) = grind arith

@@ -1,8 +1,8 @@
 -- The positions of a whole table: they rise, and each stands there once.
-use Rattle.std.proofs.Common.{◌≡◌, ◌∙◌, ap, sym, refl, inl, inr, ℕ, zero, suc, ◌+◌, ◌<◌, ◌≤◌, ◌==◌, ◌&&◌, ◌⊎◌, nat_lt, nat_le, cond, List, [], ◌∷◌, ◌++◌, map, arith, subst}
+use Rattle.std.proofs.Common.{◌≡◌, ◌∙◌, ap, sym, refl, inl, ℕ, zero, suc, ◌+◌, ◌<◌, ◌≤◌, ◌==◌, ◌&&◌, ◌⊎◌, nat_lt, nat_le, cond, List, [], ◌∷◌, ◌++◌, map, arith, subst}
 use Rattle.std.specs.Prelude.{All, AllPairs}
 use Rattle.std.proofs.lemmas.Bool.Decides.{nat_tests}
-use Rattle.std.proofs.lemmas.List.Elements.{All-nil, All-cons, All-head, All-tail, All-weaker, All-append}
+use Rattle.std.proofs.lemmas.List.Elements.{All-nil, All-head, All-tail, All-weaker, All-append}
 use Rattle.std.proofs.lemmas.List.Kept.{AllPairs-cons}
 use Rattle.std.proofs.lemmas.List.Sums.{sum_by-cons, sum_by-append}
 use Rattle.std.specs.List.{range_with_len, flat_map}
@@ -47,9 +47,7 @@ InRow row first p = (p.row ≡ row) × (first ≤ p.col)
 
 in_row : (row first cols : ℕ) → All (InRow row first) (row_of row first cols)
 in_row row first zero = All-nil (InRow row first)
-in_row row first (suc cols) =
-    All-cons (InRow row first) (at row first) (row_of row (first + 1) cols) (refl, omega arith)
-    (All-weaker (InRow row (first + 1)) (InRow row first) (λ p later. (later.0, omega arith)) _ (in_row row (first + 1) cols))
+in_row row first (suc cols) = grind (arith, in_row row (first + 1) cols)
 
 in_rows : (cols first rows : ℕ) → All (λ p. first ≤ p.row) (rows_of cols first rows)
 in_rows cols first zero = All-nil (λ p. first ≤ p.row)
@@ -60,10 +58,7 @@ in_rows cols first (suc rows) =
 
 row_rises : (row first cols : ℕ) → Rises IsBefore (row_of row first cols)
 row_rises row first zero = tt
-row_rises row first (suc cols) = (
-  All-weaker (InRow row (first + 1)) (IsBefore (at row first)) (λ p later. inr (sym later.0, omega arith)) _ (in_row row (first + 1) cols),
-  row_rises row (first + 1) cols,
-)
+row_rises row first (suc cols) = grind (arith, in_row, row_rises row (first + 1) cols)
 
 rows_rise : (cols first rows : ℕ) → Rises IsBefore (rows_of cols first rows)
 rows_rise cols first zero = tt

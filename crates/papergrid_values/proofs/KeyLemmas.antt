@@ -1,5 +1,5 @@
 -- The maps' keys, and what a finite map made of entries has at a key.
-use Rattle.std.proofs.Common.{◌≡◌, ℕ, Bool, true, cond, List, [], ◌∷◌, eqb, Some, refl, sym, ap, ◌∙◌}
+use Rattle.std.proofs.Common.{◌≡◌, ℕ, Bool, true, cond, List, [], ◌∷◌, eqb, Some, refl, sym, ap, ◌∙◌, arith}
 use Rattle.std.specs.declared.cmp.Ordering.{Ordering}
 use Rattle.std.specs.Ordering.{nat_cmp, eq_by_cmp}
 use Rattle.std.specs.Cmp.{IsTotalOrder, IsEquivalence, nat_cmp_total, nat_eq_equiv, unsigned_ties, both_tied, and_equiv, on_equiv}
@@ -35,9 +35,7 @@ get_at_position es q = get-from_entries position_total es q ∙ find-lookup posi
 
 -- no two positions are equal by the test
 pub exact_position_eq : (p q : Position) → position_eq p q ≡ true → p ≡ q
-exact_position_eq p q h =
-    let parts = and_parts (eqb p.row q.row) (eqb p.col q.col) h in
-    λ i. record { row = eqb-true p.row q.row parts.0 i; col = eqb-true p.col q.col parts.1 i }
+exact_position_eq p q h = grind (arith, and_parts, eqb-true)
 
 pub position_equiv : IsEquivalence position_eq
 position_equiv = and_equiv (on_equiv (λ p. p.row) nat_eq_equiv) (on_equiv (λ p. p.col) nat_eq_equiv)

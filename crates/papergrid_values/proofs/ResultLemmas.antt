@@ -1,7 +1,6 @@
 -- What results are told by, and two tests of one fact.
 use Rattle.std.proofs.Common.{◌≡◌, Bool, true, false, refl, sym}
-use Rattle.std.specs.Prelude.{◌↔◌, IsTrue, Result, Ok, Err, OnErr, OnOk, IfOk}
-use Rattle.std.specs.Result.{MatchResult}
+use Rattle.std.specs.Prelude.{◌↔◌, IsTrue, Result, Ok, Err, OnErr, OnOk}
 
 pub on_err : {A E : Type 0} (r : Result A E) {P : Type 0} → P → OnErr r P
 on_err (Ok x) p = tt
@@ -14,10 +13,6 @@ on_err_map (Err e) f q = f q
 pub on_ok_map : {A E : Type 0} (r : Result A E) {P Q : Type 0} → (P → Q) → OnOk r P → OnOk r Q
 on_ok_map (Ok x) f p = f p
 on_ok_map (Err e) f p = p
-
-pub ok_part : {A E : Type 0} (r : Result A E) (P : A → Type 0) (Q : E → Type 0) → MatchResult r P Q → IfOk r P
-ok_part (Ok x) P Q p = p
-ok_part (Err e) P Q q = tt
 
 -- two tests of one fact are equal
 pub same_answer : {V : Type 0} (a b : Bool) → (IsTrue a ↔ V) → (IsTrue b ↔ V) → a ≡ b

@@ -1,5 +1,5 @@
 -- What the finite map of some keys has at a key.
-use Rattle.std.proofs.Common.{◌≡◌, Bool, true, false, cond, ◌&&◌, List, [], ◌∷◌, Option, Some, None, refl, sym, ap, ◌∙◌}
+use Rattle.std.proofs.Common.{◌≡◌, Bool, true, false, cond, ◌&&◌, List, [], ◌∷◌, Option, Some, None, refl, sym, ap, ◌∙◌, arith}
 use Rattle.std.specs.Prelude.{◌||◌, is_some}
 use Rattle.std.specs.Cmp.{IsTotalOrder}
 use Rattle.std.specs.List.{list_any}
@@ -31,10 +31,7 @@ module _ {K X : Type 0} {R : K → K → Ordering} (total : IsTotalOrder R) (exa
 
   pub get-tabulated : (keys : List K) (q : K) → get (tabulation {R = R} value keys) q ≡ cond (list_any (eq_by_cmp R q) keys) (value q) None
   get-tabulated [] q = get-empty R q
-  get-tabulated (k ∷ keys) q =
-      get-with_value (tabulation value keys) k (value k) q refl
-      ∙ named_or (eq_by_cmp R q k) (is_some (value k)) (list_any (eq_by_cmp R q) keys) (value q) _
-      (λ unset ties. ap value (exact q k ties) ∙ none_set (value k) unset) (get-tabulated keys q)
+  get-tabulated (k ∷ keys) q = grind (arith, get-with_value, tabulation, named_or, none_set, get-tabulated keys q)
 
   stored_or_none : (b : Bool) (x : Option X) → (is_some x ≡ true → b ≡ true) → cond b x None ≡ x
   stored_or_none true x named = refl

@@ -1,7 +1,7 @@
 -- Cells of rows that records yield stand by row and then by column, so no two of them at one position.
-use Rattle.std.proofs.Common.{◌≡◌, ℕ, ◌+◌, ◌<◌, ◌≤◌, ◌≢◌, inl, inr, List, [], ◌∷◌, ◌++◌, get_or, length, map, refl, sym, ap, arith, suc}
+use Rattle.std.proofs.Common.{◌≡◌, ℕ, ◌+◌, ◌<◌, ◌≤◌, ◌≢◌, inl, inr, List, [], ◌∷◌, ◌++◌, get_or, length, map, sym, arith, suc}
 use Rattle.std.specs.Prelude.{All, AllPairs, true}
-use Rattle.std.proofs.lemmas.List.Elements.{All-append, All-cons, All-filter, All-map, All-nil, All-weaker}
+use Rattle.std.proofs.lemmas.List.Elements.{All-append, All-filter, All-map, All-nil, All-weaker}
 use Rattle.std.proofs.lemmas.List.Kept.{AllPairs-cons, AllPairs-filter}
 use Rattle.papergrid_values.specs.declared.position.Position.{Position}
 use Rattle.papergrid_values.specs.declared.direction.Direction.{Direction}
@@ -22,10 +22,7 @@ count-le Columns columns n l = omega arith
 count-le Rows columns n l = omega arith
 
 differ : (a b : Demand) → IsBefore (position_of a) (position_of b) → position_of a ≢ position_of b
-differ a b before e =
-    let row : a.row ≡ b.row = ap (λ (p : Position). p.row) e in
-    let col : a.col ≡ b.col = ap (λ (p : Position). p.col) e in
-    elim before [ inl l ↦ absurd (omega (arith, l, row)) | inr l ↦ let l' = l.1 in absurd (omega (arith, l', col)) ]
+differ a b before e = grind arith
 
 module _ {C : Type 0} where
   abbrev pub Precedes : Position × C → Position × C → Type 0
@@ -39,9 +36,7 @@ module _ {C : Type 0} where
 
   row-right : (r c : ℕ) (cells : List C) → All (IsRight r c) (placed_row r c cells)
   row-right r c [] = All-nil (IsRight r c)
-  row-right r c (x ∷ cells) =
-      All-cons (IsRight r c) (record { row = r; col = c }, x) (placed_row r (c + 1) cells) (refl, omega arith)
-      (All-weaker (IsRight r (c + 1)) (IsRight r c) (λ y h. let l : c + 1 ≤ y.0.col = h.1 in (h.0, omega arith)) (placed_row r (c + 1) cells) (row-right r (c + 1) cells))
+  row-right r c (x ∷ cells) = grind (arith, row-right r (c + 1) cells)
 
   from-below : (r : ℕ) (rows : List (List C)) → All (IsBelow r) (placed_from r rows)
   from-below r [] = All-nil (IsBelow r)
@@ -109,9 +104,4 @@ module _ {C : Type 0} where
   pub AreGathered-demands : (direction : Direction) (grid : Grid) (measure : C → ℕ × ℕ) (columns : ℕ) (rows : List (List C)) (kept : Demands) →
       count_along direction columns (length rows) ≤ limit_along direction columns → HoldsDemands (limit_along direction columns) kept (demands_of direction grid measure rows) →
       AreGathered (count_along direction columns (length rows)) kept (demands_of direction grid measure rows)
-  AreGathered-demands direction grid measure columns rows kept le held = record {
-    limit = limit_along direction columns;
-    held = held;
-    from_limit = le;
-    below = below-limit direction grid measure columns rows;
-  }
+  AreGathered-demands direction grid measure columns rows kept le held = grind (arith, below-limit)

@@ -1,5 +1,5 @@
 -- The greatest end over a column tells whether an anchor that is passed has the position.
-use Rattle.std.proofs.Common.{arith, refl, subst, ◌≢◌, ◌↔◌, IsTrue, sym, ap, ◌∙◌, inl, inr, ◌≡◌, ℕ, zero, suc, ◌+◌, ◌-◌, ◌^◌, ◌<◌, ◌≤◌, ◌⊎◌, nat_lt, List, Option, Some, None, slice_get}
+use Rattle.std.proofs.Common.{arith, subst, ◌≢◌, ◌↔◌, IsTrue, sym, ap, ◌∙◌, inl, inr, ◌≡◌, ℕ, zero, suc, ◌+◌, ◌-◌, ◌^◌, ◌<◌, ◌≤◌, ◌⊎◌, nat_lt, List, Option, Some, None, slice_get}
 use Rattle.std.proofs.lemmas.Bool.{cases_lt, ltb-true, lt-ltb}
 use Rattle.std.proofs.lemmas.Option.{slice_get_within, slice_get-get_or}
 use Rattle.papergrid_maps.specs.declared.anchors.Anchor.{Anchor}
@@ -12,23 +12,11 @@ use Rattle.papergrid_walk.specs.ForProofs.Swept.{cut_end, end_with, swept_end_of
 use Rattle.papergrid_maps.specs.Anchors.{IsSorted, IsWithin}
 use Rattle.papergrid_maps.proofs.HiddenLemmas.{position-same}
 
-raised-first : (first last end old column row : ℕ) → row < raised_end first last end old column → old ≤ row → first ≤ column
-raised-first first last end old column row h k = grind (arith)
-
-raised-last : (first last end old column row : ℕ) → row < raised_end first last end old column → old ≤ row → column < last
-raised-last first last end old column row h k = grind (arith)
-
-raised-row : (first last end old column row : ℕ) → row < raised_end first last end old column → old ≤ row → row < end
-raised-row first last end old column row h k = grind (arith)
-
 raised-old : (first last end old column row : ℕ) → row < old → row < raised_end first last end old column
 raised-old first last end old column row h = grind (arith)
 
 raised-new : (first last end old column row : ℕ) → first ≤ column → column < last → row < end → row < raised_end first last end old column
 raised-new first last end old column row h k m = grind (arith)
-
-cut-below : (row end : ℕ) → row < cut_end end → row < end
-cut-below row end h = grind (arith)
 
 below-cut : (row end : ℕ) → row < end → row < 2 ^ 64 - 1 → row < cut_end end
 below-cut row end h k = grind (arith)
@@ -43,27 +31,14 @@ pub record IsOver (found : Option Anchor) (column row : ℕ) : Type 0 where
 
 with-found : (found : Option Anchor) (old column row : ℕ) → row < end_with found old column → (row < old) ⊎ IsOver found column row
 with-found None old column row h = inl h
-with-found (Some a) old column row h =
-    elim (cases_lt row old) [
-      | inl below ↦ inl below
-      | inr from ↦ inr (record {
-        anchor = a;
-        is_anchor = refl;
-        after_left = raised-first _ (a.position.col + a.cols) (cut_end (a.position.row + a.rows)) old column row h from;
-        before_right = raised-last a.position.col _ (cut_end (a.position.row + a.rows)) old column row h from;
-        above_bottom = cut-below row _ (raised-row a.position.col (a.position.col + a.cols) _ old column row h from);
-      })
-    ]
+with-found (Some a) old column row h = grind arith
 
 with-old : (found : Option Anchor) (old column row : ℕ) → row < old → row < end_with found old column
 with-old None old column row h = h
 with-old (Some a) old column row h = raised-old a.position.col (a.position.col + a.cols) (cut_end (a.position.row + a.rows)) old column row h
 
 with-new : (found : Option Anchor) (old column row : ℕ) → row < 2 ^ 64 - 1 → IsOver found column row → row < end_with found old column
-with-new found old column row k over =
-    rw over.is_anchor
-    (raised-new over.anchor.position.col (over.anchor.position.col + over.anchor.cols) (cut_end (over.anchor.position.row + over.anchor.rows)) old column row
-    over.after_left over.before_right (below-cut row (over.anchor.position.row + over.anchor.rows) over.above_bottom k))
+with-new found old column row k over = grind (arith, raised-new, below-cut)
 
 pub record IsPassed (anchors : List Anchor) (passed column row : ℕ) : Type 0 where
   pub index : ℕ
@@ -84,19 +59,12 @@ end-over anchors zero column row k is = absurd (omega (arith, is.below))
 end-over anchors (suc passed) column row k is =
     elim (cases_lt is.index passed) [
       | inl below ↦ with-old (slice_get anchors passed) _ column row (end-over anchors passed column row k (record { index = is.index; below = below; over = is.over }))
-      | inr from ↦ (let e : is.index ≡ passed = omega (arith, is.below) in
-          with-new (slice_get anchors passed) (swept_end_of anchors passed column) column row k (subst (λ j. IsOver (slice_get anchors j) column row) e is.over))
+      | inr from ↦ grind (arith, with-new)
     ]
 
 -- an anchor whose rectangle has another position stands before it
 before-within : (a : Anchor) (p : Position) → a.position ≢ p → IsWithin a p → IsBefore a.position p
-before-within a p other within = elim (cases_lt a.position.row p.row) [
-  | inl above ↦ inl above
-  | inr level ↦ elim (cases_lt a.position.col p.col) [
-    | inl left ↦ inr (omega (arith, within.below_top), left)
-    | inr from ↦ absurd (other (position-same a.position p (omega (arith, within.below_top)) (omega (arith, within.after_left))))
-  ]
-]
+before-within a p other within = grind (arith, cases_lt, position-same)
 
 before-other : (q p : Position) → IsBefore q p → q ≢ p
 before-other q p (inl above) same = let e : q.row ≡ p.row = ap (λ r. r.row) same in omega (arith, above)

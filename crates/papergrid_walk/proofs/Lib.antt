@@ -1,4 +1,3 @@
-pub mod MaxTreeLemmas
 pub mod PassLemmas
 pub mod HiddenLemmas
 pub mod Distinct

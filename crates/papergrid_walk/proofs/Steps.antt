@@ -1,5 +1,5 @@
 -- The steps of the walk.
-use Rattle.std.proofs.Common.{◌≡◌, ℕ, ◌+◌, ◌<◌, ◌^◌, List, [], ◌∷◌, ◌++◌, length, refl, ap, sym, ◌∙◌, arith, suc, length-append}
+use Rattle.std.proofs.Common.{◌≡◌, ℕ, ◌+◌, ◌<◌, ◌^◌, List, [], ◌∷◌, ◌++◌, length, refl, ap, ◌∙◌, arith, suc, length-append}
 use Rattle.std.specs.Prelude.{Option, Some}
 use Rattle.std.specs.Iterator.{Yields, Count}
 use Rattle.std.specs.List.{AllZip}
@@ -34,8 +34,4 @@ module _ {C : Type 0} where
   pub placed_from-more : (r : ℕ) (rows : List (List C)) (row : List C) →
       placed_from r (rows ++ row ∷ []) ≡ placed_from r rows ++ placed_row (r + length rows) 0 row
   placed_from-more r [] row = let e : r ≡ r + 0 = omega arith in append-nil (placed_row r 0 row) ∙ ap (λ k. placed_row k 0 row) e
-  placed_from-more r (x ∷ rows) row =
-      let rest = placed_from-more (r + 1) rows row in
-      let e : r + 1 + length rows ≡ r + suc (length rows) = omega arith in
-      ap (λ ps. placed_row r 0 x ++ ps) (rest ∙ ap (λ k. placed_from (r + 1) rows ++ placed_row k 0 row) e)
-      ∙ sym (append_assoc (placed_row r 0 x) (placed_from (r + 1) rows) (placed_row (r + suc (length rows)) 0 row))
+  placed_from-more r (x ∷ rows) row = grind (arith, append_assoc, placed_from-more (r + 1) rows row)

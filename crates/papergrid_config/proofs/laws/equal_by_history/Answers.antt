@@ -1,4 +1,4 @@
-use Rattle.std.proofs.Common.{◌≡◌, ◌&&◌, true, false, refl, Bool}
+use Rattle.std.proofs.Common.{refl}
 use Rattle.std.proofs.Math.Bool.{beq}
 use Rattle.std.specs.Prelude.{nat_eq}
 use Rattle.std.specs.Cmp.{bool_eq_equiv, nat_eq_equiv}
@@ -14,14 +14,6 @@ use Rattle.papergrid_tables.proofs.HistoryEqual.{border_histories_equal, overrid
 use Rattle.papergrid_maps.proofs.HistoryEqual.{map_histories_equal, span_histories_equal}
 use Rattle.papergrid_config.proofs.EqualLemmas.{equal_values, optional_eq, same_color, same_horizontal, same_indent, same_offset, same_optional, same_sides, same_vertical, sides_eq}
 use Rattle.papergrid_config.proofs.laws.equal_by_history.Goals as goal
-
--- the last part decides alone
-and-true : (b : Bool) → (b && true) ≡ b
-and-true true = refl
-and-true false = refl
-
-pub returns-clause-by_parts : goal.returns-clause-by_parts
-returns-clause-by_parts c = λ x y. simp and-true
 
 pub returns-clause-told : goal.returns-clause-told
 returns-clause-told c settings x y one other =

@@ -1,11 +1,10 @@
-use Rattle.std.proofs.Common.{rules, of_calls, ◌≡◌, ℕ, ◌+◌, ◌-◌, ◌<◌, ◌≤◌, get_or, length, ap, sym, ◌∙◌, arith, inl, inr, ltb}
+use Rattle.std.proofs.Common.{rules, of_calls, ◌≡◌, ℕ, ◌-◌, ◌<◌, get_or, length, ap, sym, ◌∙◌, arith, inl, inr, ltb}
 use Rattle.std.proofs.lemmas.Bool.{cases_eq, cases_lt, ltb-true, ltb-false}
 use Rattle.std.proofs.lemmas.List.{get_or_default}
-use Rattle.std.proofs.lemmas.List.Folds.{list_any_at, list_any_none}
+use Rattle.std.proofs.lemmas.List.Folds.{list_any_none}
 use Rattle.std.proofs.lemmas.List.Sorted.{IsPartitionPoint-from_clause, IsPartitionedBy-ltb}
 use Rattle.papergrid_values.specs.declared.position.Position.{Position}
 use Rattle.papergrid_values.specs.Positions.{along}
-use Rattle.papergrid_maps.specs.ForProofs.SpanIndex.{covers}
 use Rattle.papergrid_maps.proofs.CoverLemmas.{never_falls, none_before, none_past}
 use Rattle.papergrid_maps.proofs.covering.covers_one.Goals as goal
 
@@ -25,46 +24,22 @@ loop-i-init c =
           let start = c.number_of-start.ensures in omega arith,
     )
 
-pub overflow_sub-number_of : goal.overflow_sub-number_of
-overflow_sub-number_of c =
-    let past = c.loop-i.invariant.1 c.loop-i.i no_position (omega arith) c.loop-i-test.true in
-    let start = c.number_of-start.ensures in
-    let number = c.number_of.ensures in
-    omega arith
-
 pub loop-i-preserved : goal.loop-i-preserved
-loop-i-preserved c = (
-  λ k p (l : k < c.loop-i.i + 1). elim (cases_eq k c.loop-i.i) [
-    | inl e ↦
-        let own : get_or c.args.positions.now k p ≡ get_or c.args.positions.now c.loop-i.i no_position =
-        rw e (get_or_default c.args.positions.now c.loop-i.i p no_position c.loop-i-test.true) in
-        ap (covers c.args.anchor c.args.columns c.args.rows) own ∙ sym c.is_covered.ensures ∙ c.if-is_covered.false
-    | inr ne ↦ c.loop-i.invariant.0 k p (omega arith)
-  ],
-  λ k p (le : c.loop-i.i + 1 ≤ k) l. c.loop-i.invariant.1 k p (omega arith) l,
-)
+loop-i-preserved c = grind (arith, cases_eq, get_or_default)
 
 pub returns-then-number_of-start : goal.returns-then-number_of-start
 returns-then-number_of-start c =
     let number : Position → ℕ = along c.args.direction in
-    let start : c.number_of-start.result ≡ number c.args.anchor = c.number_of-start.ensures in
     let span : c.number_of-span.result ≡ along c.args.direction (record { row = c.args.rows; col = c.args.columns }) = c.number_of-span.ensures ∙ ap (along c.args.direction) c.new.ensures in
-    let here : c.number_of.result ≡ number (get_or c.args.positions.now c.loop-i.i no_position) = c.number_of.ensures in
-    let reached : number c.args.anchor ≤ number (get_or c.args.positions.now c.loop-i.i no_position) = c.loop-i.invariant.1 c.loop-i.i no_position (omega arith) c.loop-i-test.true in
-    let past : c.number_of-span.result ≤ c.number_of.result - c.number_of-start.result = c.if-number_of-start.true in
     sym (list_any_none _ _ (λ k p (l : k < length c.args.positions.now). elim (cases_lt k c.loop-i.i) [
       | inl before ↦ c.loop-i.invariant.0 k p before
       | inr after ↦ none_past c.args.anchor c.args.columns c.args.rows (get_or c.args.positions.now k p) c.args.direction (elim (cases_eq k c.loop-i.i) [
         | inl e ↦ rw (e, get_or_default c.args.positions.now c.loop-i.i p no_position c.loop-i-test.true) (omega arith)
         | inr ne ↦
-            let rises : number (get_or c.args.positions.now c.loop-i.i p) < number (get_or c.args.positions.now k p) = c.requires c.loop-i.i k p (omega arith) l in
             let same : number (get_or c.args.positions.now c.loop-i.i p) ≡ number (get_or c.args.positions.now c.loop-i.i no_position) = ap number (get_or_default c.args.positions.now c.loop-i.i p no_position c.loop-i-test.true) in
-            omega arith
+            omega (arith, c.requires c.loop-i.i k p (omega arith) l)
       ])
     ]))
-
-pub returns-then-is_covered : goal.returns-then-is_covered
-returns-then-is_covered c = sym (list_any_at _ _ c.loop-i.i no_position c.loop-i-test.true (sym c.is_covered.ensures ∙ c.if-is_covered.true))
 
 pub returns : goal.returns
 returns c = sym (list_any_none _ _ (λ k p (l : k < length c.args.positions.now). c.loop-i.invariant.0 k p (omega (arith, c.loop-i-test.false))))

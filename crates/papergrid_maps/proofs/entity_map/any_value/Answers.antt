@@ -1,4 +1,4 @@
-use Rattle.std.proofs.Common.{◌≡◌, true, false, refl}
+use Rattle.std.proofs.Common.{true, false, refl}
 use Rattle.std.specs.Fn.{FnReturnsAt}
 use Rattle.std.specs.Map.Iter.{deref}
 use Rattle.papergrid_maps.proofs.AnyStored.{passed_more, passed_all, found_at}
@@ -16,8 +16,3 @@ pub returns-then-f-clause-yes : goal.returns-then-f-clause-yes
 returns-then-f-clause-yes g c =
     let found : FnReturnsAt g.F.Fn c.args.f.now c.in-Some.value.now true = record { shown = c.in-Some.value; shows = refl; says = record { met = c.if-f.ensures } } in
     found_at deref _ _ c.in-Some.value _ _ _ c.in-Some.ensures.steps found c.loop-value.invariant.split
-
-pub f-requires : goal.f-requires
-f-requires g c =
-    let among = found_at deref (λ v. v ≡ c.in-Some.value.now) c.loop-value.yielded c.in-Some.value _ _ _ c.in-Some.ensures.steps refl c.loop-value.invariant.split in
-    c.requires c.values-value-items.ensures.unique c.in-Some.value among

@@ -1,8 +1,5 @@
-use Rattle.papergrid_maps.proofs.HiddenLemmas.{visible-by-hidden, test-by-hidden}
+use Rattle.papergrid_maps.proofs.HiddenLemmas.{test-by-hidden}
 use Rattle.papergrid_maps.proofs.laws.visible_where_not_hidden.Goals as goal
-
-pub returns-clause-rectangles : goal.returns-clause-rectangles
-returns-clause-rectangles c = visible-by-hidden
 
 pub returns-clause-test : goal.returns-clause-test
 returns-clause-test c = test-by-hidden

@@ -1,4 +1,4 @@
-use Rattle.std.proofs.Common.{◌≡◌, ◌∙◌, None, Some, ap, cond, refl, sym}
+use Rattle.std.proofs.Common.{◌≡◌, ◌∙◌, None, Some, ap, cond, refl, sym, arith}
 use Rattle.std.specs.BTreeMap.{get as tree_get, is_at}
 use Rattle.std.specs.FinMap.{get, get-insert}
 use Rattle.std.specs.Map.{lookup}
@@ -27,12 +27,7 @@ returns-in-Ok-clause-both c =
     (sym c.get.ensures ∙ c.in-Some.is))
 
 pub returns-in-Err-clause-err : goal.returns-in-Err-clause-err
-returns-in-Err-clause-err c =
-    let old = c.args.index.now.spans in
-    let none : get old c.args.position ≡ None
-    = not_stored c.args.index.now.direction (get old c.args.position) c.in-Some.other
-    (sym c.in-Err.ensures.absent ∙ c.requires c.args.position ∙ ap (extent_stored c.args.index.now.direction (get old c.args.position)) (sym c.get.ensures ∙ c.in-Some.is)) in
-    rw (c.remove.ensures, c.in_ok-insert.ensures.ok) (λ i. record { direction = c.args.index.now.direction; spans = stored_and_dropped old c.args.position c.args.span none i })
+returns-in-Err-clause-err c = grind (arith, not_stored, stored_and_dropped)
 
 pub returns-in-Err-clause-both : goal.returns-in-Err-clause-both
 returns-in-Err-clause-both c =

@@ -1,4 +1,4 @@
-use Rattle.std.proofs.Common.{◌≤◌, arith, ap}
+use Rattle.std.proofs.Common.{arith, ap}
 use Rattle.std.specs.BTreeMap.{get as tree_get}
 use Rattle.std.specs.FinMap.{get, get-remove}
 use Rattle.papergrid_values.specs.MapKeys.{position_cmp}
@@ -22,9 +22,7 @@ returns-in-1-clause-both c =
     c.args.position c.requires (get-remove position_total old c.args.position) c.remove-in-1.ensures.updates.0)
 
 pub returns-in_default-clause-ok : goal.returns-in_default-clause-ok
-returns-in_default-clause-ok c =
-    let big : 2 ≤ c.args.span = omega (arith, c.in_default) in
-    on_ok_map c.hold_span.result (λ stored. rw stored (stored_set c.args.index.now.spans c.args.position c.args.span big)) c.hold_span.ensures.ok
+returns-in_default-clause-ok c = grind (arith, on_ok_map, stored_set)
 
 pub returns-in_default-clause-from_two : goal.returns-in_default-clause-from_two
 returns-in_default-clause-from_two c =

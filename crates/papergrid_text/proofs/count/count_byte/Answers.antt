@@ -9,16 +9,7 @@ overflow_add-count c =
     omega (arith, few, c.well_formed)
 
 pub loop-at-preserved : goal.loop-at-preserved
-loop-at-preserved c =
-    let within = c.loop-at.invariant.within in
-    let test = c.loop-at-test.true in
-    let more = count_more (λ b. b == c.args.byte) c.loop-at.at 32 c.args.bytes.now in
-    record {
-      within = omega arith;
-      so_far = omega (arith, more, c.loop-at.invariant.so_far, c.count_in_lanes-count.ensures);
-    }
+loop-at-preserved c = grind (arith, count_more)
 
 pub returns : goal.returns
-returns c =
-    let whole = count_whole (λ b. b == c.args.byte) c.loop-at.at c.args.bytes.now c.loop-at.invariant.within in
-    omega (arith, whole, c.loop-at.invariant.so_far, c.count_in_rest.ensures)
+returns c = grind (arith, count_whole)

@@ -1,11 +1,7 @@
 use Rattle.std.proofs.Common.{◌||◌, not, arith}
 use Rattle.std.specs.Prelude.{◌==◌}
-use Rattle.papergrid_text.proofs.Lanes.{counted_here, counted_last, counted_past}
+use Rattle.papergrid_text.proofs.Lanes.{counted_last, counted_past}
 use Rattle.papergrid_text.proofs.search.find_by_loads.Goals as goal
-
-pub returns-then-run-lt-LANES : goal.returns-then-run-lt-LANES
-returns-then-run-lt-LANES c =
-    counted_here (λ b. not ((b == c.args.one) || (b == c.args.other))) c.args.bytes.now c.loop-at.at 16 _ (omega arith) c.find_in_lanes-run.ensures c.if-run-lt-LANES.true c.loop-at.invariant.rest
 
 pub loop-at-preserved : goal.loop-at-preserved
 loop-at-preserved c =

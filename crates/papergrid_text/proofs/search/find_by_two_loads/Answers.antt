@@ -15,6 +15,4 @@ returns g c =
     counted_last (λ b. not ((b == c.args.one) || (b == c.args.other))) bytes (0 + g.row.N) _ g.row.N _ (omega arith) (omega arith) more c.find_in_lanes.ensures
 
 pub overflow_add-result : goal.overflow_add-result
-overflow_add-result g c =
-    let few = counted_few (λ b. not ((b == c.args.one) || (b == c.args.other))) c.args.bytes.now _ g.row.N _ (omega arith) c.find_in_lanes.ensures in
-    omega (arith, c.well_formed)
+overflow_add-result g c = grind (arith, counted_few)

@@ -1,4 +1,4 @@
-use Rattle.std.proofs.Common.{ap, sym, ◌∙◌}
+use Rattle.std.proofs.Common.{ap, sym, ◌∙◌, arith}
 use Rattle.std.proofs.lemmas.Iterator.{items_from_drains}
 use Rattle.std.proofs.lemmas.Iterator.Splits.{YieldsList-from_lines}
 use Rattle.std.specs.Str.Iter.{lines_rest}
@@ -11,8 +11,7 @@ pub returns-then-is_printable : goal.returns-then-is_printable
 returns-then-is_printable c = sym (text_width-printable c.args.text.now (sym c.if-is_printable.ensures))
 
 pub loop-line-preserved : goal.loop-line-preserved
-loop-line-preserved c =
-    (tt, tt, greatest_of-more c.loop-line.yielded c.in-Some.line _ _ _ c.loop-line.invariant.2 c.get_line_width.ensures c.max-width.ensures)
+loop-line-preserved c = grind (arith, greatest_of-more)
 
 pub returns : goal.returns
 returns c =

@@ -17,10 +17,7 @@ falls_short : (text : List ℕ) (n : ℕ) → n ≡ prefix_len (is_in_range 0x20
 falls_short text n is other = let bound = prefix_len-le-length (is_in_range 0x20 0x7E) text in omega arith
 
 pub bounds-as_bytes-printable : goal.bounds-as_bytes-printable
-bounds-as_bytes-printable c =
-    let short = falls_short c.args.text.now _ c.requires c.if-printable-text.false in
-    let long = ap length c.as_bytes.ensures.value in
-    omega arith
+bounds-as_bytes-printable c = grind (arith, falls_short)
 
 pub range_from-requires : goal.range_from-requires
 range_from-requires c = λ some.
@@ -35,9 +32,5 @@ returns-then-as_bytes-printable-eq10-clause-first c =
     let is = c.requires in
     let within = falls_short c.args.text.now _ c.requires c.if-printable-text.false in
     let newline : get_or text n 0 ≡ 10 = ap (λ bytes. get_or bytes n 0) (sym c.as_bytes.ensures.value) ∙ c.if-as_bytes-printable-eq10.true in
-    let first = first_newline text (omega arith) (ap (λ k. get_or text k 0) (sym is) ∙ newline) in
-    let place = is ∙ sym first in
+    let place = is ∙ sym (first_newline text (omega arith) (ap (λ k. get_or text k 0) (sym is) ∙ newline)) in
     (take n text, split_first text (take n text) c.range_from.result.now (omega arith) (ap (λ k. take k text) place) (c.range_from.ensures.value ∙ ap (λ k. drop (k + 1) text) place), front_width text n is)
-
-pub returns-clause-first : goal.returns-clause-first
-returns-clause-first c = (c.cut_line.result.0.now, c.cut_line.ensures.lines, c.width_by_characters.ensures)

@@ -1,4 +1,4 @@
-use Rattle.std.proofs.Common.{arith, ap, ◌∙◌, sym, subst, map, rules}
+use Rattle.std.proofs.Common.{arith, ap, ◌∙◌, sym, subst, map}
 use Rattle.std.specs.List.{All}
 use Rattle.std.proofs.lemmas.List.Elements.{All-push}
 use Rattle.papergrid_text.specs.LineCache.{IsInsideText, line_of_range}
@@ -8,19 +8,7 @@ use Rattle.papergrid_text.proofs.Widths.{greatest_of-more}
 use Rattle.papergrid_text.proofs.text.measure_lines.Goals as goal
 
 pub lines-init : goal.lines-init
-lines-init c = (
-  tt,
-  tt,
-  search rules,
-  search rules,
-  search rules,
-  rest_at_start c.args.text.now (lines_left c.into_iter-line-iterator.result) (ap lines_left c.into_iter-line-iterator.ensures.into_iter_gives ∙ c.get_lines-line-items.ensures) c.utf8.text,
-)
-
-pub overflow_add-end : goal.overflow_add-end
-overflow_add-end c =
-    let step = step_by c.args.text.now c.in-Some.line.now c.lines.start _ (lines_left c.next.new.self) c.utf8.text c.in-Some.ensures.steps c.lines.invariant.5 in
-    let f = step.fits in let t = c.type_inv.text in omega arith
+lines-init c = grind (arith, rest_at_start)
 
 pub lines-preserved : goal.lines-preserved
 lines-preserved c =

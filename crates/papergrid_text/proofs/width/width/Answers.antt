@@ -1,9 +1,6 @@
-use Rattle.std.proofs.Common.{sym, ◌∙◌}
+use Rattle.std.proofs.Common.{arith}
 use Rattle.papergrid_text.proofs.PrintableLemmas.{whole_printable, width-printable}
 use Rattle.papergrid_text.proofs.width.width.Goals as goal
 
 pub returns-then-printable-text : goal.returns-then-printable-text
-returns-then-printable-text c =
-    let text = c.args.text.now in
-    let printable = whole_printable text _ c.count_printable-printable.ensures c.if-printable-text.true in
-    c.if-printable-text.true ∙ sym (width-printable text printable)
+returns-then-printable-text c = grind (arith, whole_printable, width-printable)

@@ -1,5 +1,4 @@
 use Rattle.std.proofs.Common.{◌-◌, ◌≤◌, refl, subst₂, arith}
-use Rattle.std.proofs.lemmas.Bool.{false≢true}
 use Rattle.std.proofs.lemmas.List.{get_or_default}
 use Rattle.papergrid_values.specs.declared.position.Position.{Position}
 use Rattle.papergrid_tracks.specs.ForProofs.Checks.{AreInOrder}
@@ -22,10 +21,3 @@ loop-i-preserved g c =
 
 pub returns : goal.returns
 returns g c = ((λ t i j p l l'. c.loop-i.invariant.1 i j p l (omega arith)), λ pairs. refl)
-
-pub returns-then-not-is_before : goal.returns-then-not-is_before
-returns-then-not-is_before g c =
-    let one : 1 ≤ c.loop-i.i = c.loop-i.invariant.0 in (
-      (λ t. absurd (false≢true t)),
-      λ pairs. c.if-not-is_before.ensures.1 (pairs (c.loop-i.i - 1) c.loop-i.i no_position (omega arith) c.loop-i-test.true),
-    )

@@ -1,4 +1,4 @@
-use Rattle.std.proofs.Common.{◌∙◌, rules, of_calls, sym}
+use Rattle.std.proofs.Common.{rules, of_calls, arith}
 use Rattle.std.specs.Prelude.{nat_lt}
 use Rattle.std.proofs.lemmas.List.Sorted.{IsPartitionPoint-from_clause, IsPartitionedBy-ltb}
 use Rattle.papergrid_values.specs.Positions.{along}
@@ -11,5 +11,4 @@ returns c =
     IsPartitionPoint-from_clause (λ p. nat_lt (along c.args.direction p) c.args.start) _ _ c.partition_point.ensures.partitioned parted (λ a r q k. search (rules, of_calls))
 
 pub returns-then-number_of-start : goal.returns-then-number_of-start
-returns-then-number_of-start c =
-    point-guess c.args.direction c.args.positions.now c.args.start _ c.requires c.if-start-positions.true (sym c.number_of.ensures ∙ c.if-number_of-start.true)
+returns-then-number_of-start c = grind (arith, point-guess)

@@ -1,4 +1,4 @@
-use Rattle.std.proofs.Common.{rules, ◌-◌, ◌<◌, ◌≤◌, get_or, arith}
+use Rattle.std.proofs.Common.{rules, ◌-◌, ◌<◌, arith}
 use Rattle.std.specs.Prelude.{All}
 use Rattle.std.specs.List.Sorted.{IsNonDecreasingBy}
 use Rattle.std.proofs.lemmas.List.Sorted.{All-permutation, IsNonDecreasingBy-from_sort_by_key}
@@ -13,7 +13,4 @@ returns-clause-sorted c =
     let small : All (λ d. end_of d < 18446744073709551616) c.sort_by_key.new.self.items =
     All-permutation (λ d. end_of d < 18446744073709551616) c.args.cells.now.items c.sort_by_key.new.self.items c.sort_by_key.ensures.permutation c.requires in
     λ i j d le l.
-    let s : 18446744073709551615 - (get_or c.sort_by_key.new.self.items i d).start ≤ 18446744073709551615 - (get_or c.sort_by_key.new.self.items j d).start = sorted i j d le l in
-    let a : end_of (get_or c.sort_by_key.new.self.items i d) < 18446744073709551616 = small i d (omega arith) in
-    let b : end_of (get_or c.sort_by_key.new.self.items j d) < 18446744073709551616 = small j d l in
-    omega arith
+    omega (arith, small i d (omega arith), sorted i j d le l, small j d l)

@@ -22,8 +22,7 @@ pub certifying_positions-requires-clause-growing_cells : goal.certifying_positio
 certifying_positions-requires-clause-growing_cells c =
     let problem = c.requires.0 in
     let grown = c.requires.2 in
-    let many : length c.args.sizes.now ≡ problem.count = ap length grown.shares ∙ (Fits-sizes_of problem grown.table).one_each in
-    rw (grown.grew, many) (table-growing problem grown.table)
+    rw (grown.grew, (ap length grown.shares ∙ (Fits-sizes_of problem grown.table).one_each)) (table-growing problem grown.table)
 
 pub certifying_positions-requires-clause-laminar : goal.certifying_positions-requires-clause-laminar
 certifying_positions-requires-clause-laminar c =
@@ -34,10 +33,9 @@ certifying_positions-requires-clause-laminar c =
 pub returns-clause-asked : goal.returns-clause-asked
 returns-clause-asked c = λ problem kept grown asked.
     let many : length c.args.sizes.now ≡ problem.count = ap length grown.shares ∙ (Fits-sizes_of problem grown.table).one_each in
-    let laminar = (rw c.if-not-branch.false at c.in_ok-is_laminar_in_order.ensures).0 refl in
     let exact : AreExact problem.demands c.args.growing_cells.now c.args.sizes.now c.deref.result.now =
     rw (grown.grew, grown.shares, c.deref.ensures.value) (AreExact-settled problem c.args.kept.now kept grown.table grown.total) in
     AreChosen-from_laminar problem grown.table grown.total c.in_ok-positions.positions.items
     (c.in_ok-positions.ensures problem.demands exact
     ∙ ap (map position_of) (ap (λ k. certificate_cells k problem.demands c.args.growing_cells.now c.args.sizes.now) many ∙ ap₂ (certificate_cells problem.count problem.demands) grown.grew grown.shares))
-    (subst IsLaminarInOrder grown.in_order laminar)
+    (subst IsLaminarInOrder grown.in_order ((rw c.if-not-branch.false at c.in_ok-is_laminar_in_order.ensures).0 refl))

@@ -1,11 +1,11 @@
-use Rattle.std.proofs.Common.{◌≡◌, ℕ, ◌+◌, ◌*◌, ◌<◌, ◌≤◌, ◌∷◌, ◌++◌, [], ◌∙◌, ap₂, sym, refl, subst, subst₂, arith, length, slice_index, true}
-use Rattle.std.proofs.lemmas.Bool.{not-false, not-true, true≢false}
+use Rattle.std.proofs.Common.{◌≡◌, ℕ, ◌+◌, ◌<◌, ◌≤◌, ◌∷◌, ◌++◌, [], ◌∙◌, sym, refl, subst, subst₂, arith, length, slice_index, true}
+use Rattle.std.proofs.lemmas.Bool.{not-true, true≢false}
 use Rattle.papergrid_tracks.specs.ForProofs.Checks.{Checks, range_of, times_listed}
 use Rattle.papergrid_tracks.specs.Fits.{HasRoom, range_sum}
 use Rattle.papergrid_values.specs.Positions.{along}
 use Rattle.papergrid_tracks.specs.Ranges.{demand_of, inner_lines}
 use Rattle.papergrid_tracks.proofs.CandidateLemmas.{rising-from_order}
-use Rattle.papergrid_tracks.proofs.CheckLemmas.{Checks-more, Checks-fails, first_of_range, none_listed, none_room, too_many, inner_lines-span}
+use Rattle.papergrid_tracks.proofs.CheckLemmas.{Checks-more, Checks-fails, first_of_range, none_listed, none_room, inner_lines-span}
 use Rattle.papergrid_tracks.proofs.checked.visit.Goals as goal
 
 -- room enough in the first size of the range, and not listed
@@ -29,31 +29,6 @@ returns-then-has_room_alone-clause-checks g c = λ demands before.
     subst (λ r. Checks line candidate.sizes.now candidate.positions.now candidate.direction span_of r (demands ++ d ∷ []))
     (none_listed c.args.checked c.args.minimum (inner_lines line d) (times_listed candidate.positions.now d) c.if-checked.true none)
     (Checks-more line candidate.sizes.now candidate.positions.now candidate.direction span_of c.args.checked demands d before refl stays.0 c.if-checked.true inside has few c.requires.minimum small)
-
-pub returns-then-times-candidate-clause-checks : goal.returns-then-times-candidate-clause-checks
-returns-then-times-candidate-clause-checks g c = λ demands before.
-    let line : ℕ → _ = g.A.Axis.line c.args.axis.now in
-    let span_of = g.A.Axis.span_of c.args.axis.now in
-    let d = demand_of c.args.candidate.now.direction c.args.position (g.A.Axis.span_of c.args.axis.now c.args.position) c.args.minimum in
-    let inside : along c.args.candidate.now.direction c.args.position + g.A.Axis.span_of c.args.axis.now c.args.position ≤ length c.args.candidate.now.sizes.now =
-    omega (arith, c.in-Some.ensures.inside, c.number_of-start.ensures, c.span-span.ensures.value) in
-    let has : HasRoom line c.args.candidate.now.sizes.now d = subst₂ (λ s n. HasRoom line c.args.candidate.now.sizes.now (range_of s n c.args.minimum)) c.number_of-start.ensures c.span-span.ensures.value c.in-Some.ensures.room in
-    let times : c.count_listed-times.result ≡ times_listed c.args.candidate.now.positions.now d = c.count_listed-times.ensures in
-    let inner : c.in-Some.inner ≡ inner_lines line d = c.in-Some.ensures.inner ∙ ap₂ (λ s n. inner_lines line (range_of s n c.args.minimum)) c.number_of-start.ensures c.span-span.ensures.value in
-    let one : 1 ≤ g.A.Axis.span_of c.args.axis.now c.args.position = omega (arith, c.span-span.ensures.value, c.span-span.ensures.positive) in
-    let small : inner_lines line d ≤ 18446744073709551616 = omega (arith, inner_lines-span line d, inside) in
-    let few : c.args.checked.found + times_listed c.args.candidate.now.positions.now d ≤ length c.args.candidate.now.positions.now = omega (arith, times, c.if-times-candidate.true, c.requires.bounded.few) in
-    subst (λ r. Checks line c.args.candidate.now.sizes.now c.args.candidate.now.positions.now c.args.candidate.now.direction span_of r (demands ++ d ∷ []))
-    (sym (c.with_cell.ensures ∙ ap₂ (λ (t i : ℕ). record { holds = true; found = c.args.checked.found + t; minimums = c.args.checked.minimums + c.args.minimum * t; inner = c.args.checked.inner + i * t }) times inner))
-    (Checks-more line c.args.candidate.now.sizes.now c.args.candidate.now.positions.now c.args.candidate.now.direction span_of c.args.checked demands d before refl one (not-false c.args.checked.holds c.if-not-checked.false) inside has few c.requires.minimum small)
-
-pub returns-else-times-candidate-clause-checks : goal.returns-else-times-candidate-clause-checks
-returns-else-times-candidate-clause-checks g c = λ demands before.
-    let d = demand_of c.args.candidate.now.direction c.args.position (g.A.Axis.span_of c.args.axis.now c.args.position) c.args.minimum in
-    let one : 1 ≤ g.A.Axis.span_of c.args.axis.now c.args.position = omega (arith, c.span-span.ensures.value, c.span-span.ensures.positive) in
-    let times : c.count_listed-times.result ≡ times_listed c.args.candidate.now.positions.now d = c.count_listed-times.ensures in
-    let many : length c.args.candidate.now.positions.now < c.args.checked.found + times_listed c.args.candidate.now.positions.now d = omega (arith, times, c.if-times-candidate.false, c.requires.bounded.few) in
-    rw c.failed-else-times-candidate.ensures (Checks-fails _ _ _ _ _ c.args.checked demands d before refl one (λ so. too_many _ _ _ _ _ c.args.checked demands d before refl one so many))
 
 pub returns-in-None-clause-checks : goal.returns-in-None-clause-checks
 returns-in-None-clause-checks g c = λ demands before.

@@ -4,13 +4,7 @@ use Rattle.papergrid_tracks.proofs.LoopLemmas.{Distributes, Distributes-all, sha
 use Rattle.papergrid_tracks.proofs.growing_cells.distribute.Goals as goal
 
 pub overflow_add-sizes : goal.overflow_add-sizes
-overflow_add-sizes c =
-    let one = c.requires.table.covers_one in
-    let r = c.loop-i.invariant.rest c.loop-i.i (omega arith) in
-    let n = c.loop-i.invariant.next (omega arith) in
-    let s = share-le c.args.amount c.args.demand c.loop-i.i one in
-    let m = c.requires.room c.loop-i.i (omega arith) (omega arith) in
-    omega arith
+overflow_add-sizes c = grind (arith, share-le)
 
 pub returns : goal.returns
 returns c =

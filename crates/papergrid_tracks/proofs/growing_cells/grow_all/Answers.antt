@@ -1,4 +1,4 @@
-use Rattle.std.proofs.Common.{◌≡◌, ◌∙◌, ◌++◌, fold, get_or, ap, sym, ltb, Vec, Global}
+use Rattle.std.proofs.Common.{◌≡◌, ◌∙◌, ◌++◌, get_or, ap, sym, ltb, Vec, Global, arith}
 use Rattle.std.proofs.lemmas.Bool.{ltb_from_iff}
 use Rattle.std.proofs.lemmas.List.{append-nil, at_drop_all, take_all}
 use Rattle.std.proofs.lemmas.List.Sums.{fold_more}
@@ -42,6 +42,4 @@ returns-clause-growing_cells c =
     ∙ c.loop-demand.invariant.1
 
 pub returns-clause-sizes : goal.returns-clause-sizes
-returns-clause-sizes c =
-    c.loop-demand.invariant.0
-    ∙ ap (fold (grown_sizes (line_at c.args.lines.now)) c.args.sizes.now) (take_all c.loop-demand.demand-index c.args.cells.now c.loop-demand-test.false)
+returns-clause-sizes c = grind (arith, take_all)

@@ -1,7 +1,6 @@
 -- The sizes and the path that are computed are those of which the definitions tell.
 use Rattle.std.proofs.Common.{ℕ, refl, arith}
 use Rattle.std.specs.Prelude.{All}
-use Rattle.std.proofs.lemmas.List.Elements.{All-from_recursion}
 use Rattle.papergrid_tracks.specs.Crossing.{crossing_cells}
 use Rattle.papergrid_tracks.specs.Ranges.{IsInTable}
 use Rattle.papergrid_tracks.proofs.LeastLemmas.{furthest_right-is}
@@ -9,8 +8,7 @@ use Rattle.papergrid_tracks.proofs.PathBackLemmas.{critical_path-is}
 use Rattle.papergrid_tracks.proofs.worked.crossing_worked.Goals as goal
 
 table : (minimum : ℕ) → All (IsInTable 3) (crossing_cells minimum).demands
-table minimum = All-from_recursion (IsInTable 3) (crossing_cells minimum).demands
-    (record { covers_one = omega arith; ends_within = omega arith }, (record { covers_one = omega arith; ends_within = omega arith }, tt))
+table minimum = grind arith
 
 pub returns : goal.returns
 returns c = record {

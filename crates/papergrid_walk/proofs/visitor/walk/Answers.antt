@@ -1,13 +1,8 @@
-use Rattle.std.proofs.Common.{arith, refl, subst, sym, [], ◌∷◌, ◌++◌, ◌∙◌, ◌+◌, ◌≡◌, ap, length}
+use Rattle.std.proofs.Common.{arith, subst, sym, [], ◌∷◌, ◌++◌, ◌∙◌, ◌+◌, ◌≡◌, ap, length}
 use Rattle.papergrid_text.proofs.RowSteps.{zip_more}
 use Rattle.papergrid_walk.specs.Cells.{positioned_cells, placed_row}
 use Rattle.papergrid_walk.proofs.Steps.{counted_more, one_more_counted, placed_from-more, zip_length}
 use Rattle.papergrid_walk.proofs.visitor.walk.Goals as goal
-
-pub loop-row-init : goal.loop-row-init
-loop-row-init g c =
-    let short = c.iter_rows-row-items.ensures.finite c.requires.lawful c.into_iter-row-iterator.result c.into_iter-row-iterator.ensures.into_iter_gives in
-    (short.may_start, short.ends, refl, c.requires.ready, ([], tt, g.met.V.Visitor.empty c.args.visitor.now))
 
 pub walk_row-requires-clause-short : goal.walk_row-requires-clause-short
 walk_row-requires-clause-short g c =
@@ -46,11 +41,4 @@ loop-row-preserved g c =
     )
 
 pub returns-clause-consumed : goal.returns-clause-consumed
-returns-clause-consumed g c =
-    let same = c.loop-row.invariant.2 in
-    let so_far = c.loop-row.invariant.4 in
-    let many = same ∙ zip_length _ c.loop-row.yielded so_far.0 so_far.1 in (
-      so_far.0,
-      c.iter_rows-row-items.ensures.told so_far.0 record { rows = c.loop-row.yielded; walk = record { iterator = c.into_iter-row-iterator.result; made = c.into_iter-row-iterator.ensures.into_iter_gives; walked = (c.next.new.self, (c.loop-row.row-iterator, c.loop-row.yielded_by, c.in-None.ensures.steps)) }; each = so_far.1 },
-      (so_far.2, many),
-    )
+returns-clause-consumed g c = grind (arith, zip_length)

@@ -1,12 +1,7 @@
-use Rattle.std.proofs.Common.{arith, refl, subst, sym, [], ◌∷◌, ◌++◌, ◌∙◌, ◌+◌, ◌≡◌, ap, length}
+use Rattle.std.proofs.Common.{arith, subst, sym, [], ◌∷◌, ◌++◌, ◌∙◌, ◌+◌, ◌≡◌, ap, length}
 use Rattle.papergrid_walk.specs.Cells.{placed_row}
 use Rattle.papergrid_walk.proofs.Steps.{counted_more, one_more_counted, placed_row-more}
 use Rattle.papergrid_walk.proofs.visitor.walk_row.Goals as goal
-
-pub loop-cell-init : goal.loop-cell-init
-loop-cell-init g c =
-    let short = c.requires.short c.into_iter-cell-iterator.result c.into_iter-cell-iterator.ensures.into_iter_gives in
-    (short.may_start, short.ends, refl, c.requires.ready, g.met.V.Visitor.empty c.args.visitor.now)
 
 pub visit-requires-clause-col_in : goal.visit-requires-clause-col_in
 visit-requires-clause-col_in g c =
@@ -33,10 +28,3 @@ loop-cell-preserved g c =
       subst (g.V.Visitor.consumed c.args.visitor.now c.visit.new.self) (sym cells)
           (g.met.V.Visitor.append c.args.visitor.now c.loop-cell.visitor c.visit.new.self _ _ c.loop-cell.invariant.4 c.in_ok-visit.ensures.consumed),
     )
-
-pub returns-clause-consumed : goal.returns-clause-consumed
-returns-clause-consumed g c =
-    (c.loop-cell.yielded, record { iterator = c.into_iter-cell-iterator.result; made = c.into_iter-cell-iterator.ensures.into_iter_gives; walked = (c.next.new.self, (c.loop-cell.cell-iterator, c.loop-cell.yielded_by, c.in-None.ensures.steps)) }, c.loop-cell.invariant.4)
-
-pub returns-clause-ready : goal.returns-clause-ready
-returns-clause-ready g c = g.met.V.Visitor.next_row c.loop-cell.visitor c.args.number c.loop-cell.column c.loop-cell.invariant.3

@@ -1,6 +1,5 @@
-use Rattle.std.proofs.Common.{◌≡◌, [], Some, false, subst, sym, ◌∙◌}
+use Rattle.std.proofs.Common.{◌≡◌, Some, false, subst, sym, ◌∙◌}
 use Rattle.std.specs.List.{slice_get}
-use Rattle.std.specs.Vec.Iter.{into_iter_items}
 use Rattle.std.proofs.lemmas.List.{nil_from_length}
 use Rattle.std.proofs.lemmas.Option.{slice_get_within}
 use Rattle.papergrid_maps.specs.MapCalls.{HasEqualClones, may_grow}
@@ -19,8 +18,7 @@ overflow_add-done g c = next_fits c.args.calls.items c.loop-call.done c.args.cal
 
 pub returns-clause-ok : goal.returns-clause-ok
 returns-clause-ok g c =
-    let none : into_iter_items c.loop-call.call-iterator ≡ [] =
-    nil_from_length _ (sym c.loop-call.call-iterator.rest.ok.0 ∙ c.in-None.ensures.steps.0) in
+    let none = nil_from_length _ (sym c.loop-call.call-iterator.rest.ok.0 ∙ c.in-None.ensures.steps.0) in
     subst (AppendsCalls _ _) c.into_iter-call-iterator.ensures.into_iter_gives.0 (all_told none c.loop-call.invariant)
 
 pub returns-in-Err-clause-err : goal.returns-in-Err-clause-err

@@ -1,6 +1,5 @@
 use Rattle.std.proofs.Common.{ap, refl, ◌∙◌, cond, Some}
 use Rattle.std.specs.HashMap.{get}
-use Rattle.std.specs.Map.{lookup}
 use Rattle.std.specs.Set.{is_member}
 use Rattle.papergrid_values.specs.MapKeys.{position_eq}
 use Rattle.papergrid_maps.specs.declared.entity_map.MapCall.TheVariants.{Insert}
@@ -40,7 +39,3 @@ returns-in-Cell-clause-ok g c = on_ok_map c.write.result (λ updates.
     history_from_step c.self.view_is (ap (λ e. Insert e c.args.value) c.in-Cell.is)
     (step_insert_cell _ c.args.value c.in-Cell.row c.in-Cell.col _ _ _ _ updates.0))
     c.write.ensures.ok
-
-pub returns-in-Cell-clause-err : goal.returns-in-Cell-clause-err
-returns-in-Cell-clause-err g c =
-    on_err_map c.write.result (λ same. same_view _ _ _ _ _ _ _ (λ c. refl) (λ r. refl) (λ p. ap (lookup (position_eq p)) same) ∙ c.self.view_is) c.write.ensures.err

@@ -1,6 +1,5 @@
-use Rattle.std.proofs.Common.{map, subst, sym}
+use Rattle.std.proofs.Common.{arith}
 use Rattle.std.proofs.lemmas.Result.{IfOk-weaker}
-use Rattle.papergrid_maps.specs.ForProofs.SpanIndex.{IsRising, entry_anchor}
 use Rattle.papergrid_maps.proofs.AnchorLemmas.{entries-at, rising-entries}
 use Rattle.papergrid_maps.proofs.span_index.SpanIndex.anchors.Goals as goal
 
@@ -9,7 +8,4 @@ returns-clause-spans c = rw (← c.self.view_is)
     (IfOk-weaker c.anchors_along.result _ _ (λ anchors is. rw is (entries-at c.self.inside.direction c.self.inside.spans c.self.invariant c.args.others.now.spans)) c.anchors_along.ensures)
 
 pub returns-clause-sorted : goal.returns-clause-sorted
-returns-clause-sorted c = rw (← c.self.view_is)
-    (IfOk-weaker c.anchors_along.result _ _ (λ anchors is by_columns. subst IsRising (sym is)
-    (subst (λ d. IsRising (map (entry_anchor d c.args.others.now.spans) c.self.inside.spans.entries)) (sym by_columns)
-    (rising-entries c.args.others.now.spans c.self.inside.spans.entries c.self.invariant))) c.anchors_along.ensures)
+returns-clause-sorted c = grind (arith, rising-entries)

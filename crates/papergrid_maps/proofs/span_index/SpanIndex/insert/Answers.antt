@@ -1,4 +1,4 @@
-use Rattle.std.proofs.Common.{◌∙◌, Some, ap, cond, refl, sym}
+use Rattle.std.proofs.Common.{◌∙◌, Some, ap, cond, refl, arith}
 use Rattle.std.specs.BTreeMap.{get as tree_get, is_at}
 use Rattle.papergrid_values.specs.MapKeys.{position_cmp}
 use Rattle.papergrid_values.proofs.ResultLemmas.{on_err}
@@ -6,8 +6,7 @@ use Rattle.papergrid_maps.proofs.IndexKeys.{stored_at, stored_insert}
 use Rattle.papergrid_maps.proofs.span_index.SpanIndex.insert.Goals as goal
 
 pub returns-in_err-insert-clause-absent : goal.returns-in_err-insert-clause-absent
-returns-in_err-insert-clause-absent c = on_err c.from_residual.result (rw (← c.self.view_is)
-    (stored_at c.self.inside.direction c.self.inside.spans.entries c.args.position ∙ ap (tree_get position_cmp c.self.inside.spans) (sym c.key_of.ensures) ∙ c.in_err-insert.ensures.absent))
+returns-in_err-insert-clause-absent c = grind (arith, on_err, stored_at)
 
 pub returns-clause-ok : goal.returns-clause-ok
 returns-clause-ok c =

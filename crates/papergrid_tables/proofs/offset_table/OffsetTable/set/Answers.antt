@@ -1,4 +1,4 @@
-use Rattle.std.proofs.Common.{◌∙◌}
+use Rattle.std.proofs.Common.{arith}
 use Rattle.papergrid_values.proofs.ResultLemmas.{on_ok_map, on_err_map}
 use Rattle.papergrid_values.proofs.EntryLemmas.{same_positions}
 use Rattle.papergrid_tables.proofs.OverrideHistory.{either_way, kept_set, kept_unchanged, history_set}
@@ -15,5 +15,4 @@ returns-clause-ok g c = rw (← c.self.view_is)
     (on_ok_map c.set_override.result (history_set c.self.inside.overrides.entries _ c.args.position c.args.offset c.args.value) c.set_override.ensures.ok)
 
 pub returns-clause-err : goal.returns-clause-err
-returns-clause-err g c =
-    on_err_map c.set_override.result (λ same. same_positions c.self.inside.overrides.entries _ same ∙ c.self.view_is) c.set_override.ensures.err
+returns-clause-err g c = grind (arith, on_err_map, same_positions)

@@ -1,8 +1,7 @@
-use Rattle.std.proofs.Common.{◌≡◌, false, true, ◌+◌, ◌-◌, ◌++◌, length, encode_utf8_all, sym, ap, ◌∙◌, arith, rules, subst}
+use Rattle.std.proofs.Common.{◌≡◌, false, true, ◌+◌, ◌-◌, length, sym, ap, ◌∙◌, arith, rules, subst}
 use Rattle.std.proofs.lemmas.List.{nil_from_length}
 use Rattle.std.proofs.lemmas.Str.{chars_from_encodes}
-use Rattle.std.specs.Str.Iter.{chars_rest}
-use Rattle.unicode_width.specs.Width.{is_plain, plain, read_before, str_width}
+use Rattle.unicode_width.specs.Width.{is_plain, str_width}
 use Rattle.unicode_width.proofs.WidthLemmas.{HasRead, HasRead-printable, HasRead-step}
 use Rattle.papergrid_text.specs.ForProofs.Emoji.{state_of}
 use Rattle.papergrid_text.specs.declared.width.part.After.TheVariants.{Other}
@@ -31,8 +30,4 @@ loop-c-preserved-then-eq c =
 
 pub returns : goal.returns
 unfolding str_width
-returns c =
-    let read = c.loop-c.invariant in
-    let none = nil_from_length (chars_rest c.loop-c.rest) c.in_default.ensures.steps.0 in
-    let whole : encode_utf8_all read.0 ≡ c.args.text.now = sym (read.1 ∙ ap (λ l. l ++ encode_utf8_all read.0) none) in
-    ap (λ r. r.0) read.2 ∙ ap (λ cs. (read_before false cs (0, plain)).0) (chars_from_encodes read.0 c.args.text.now c.utf8.text whole)
+returns c = grind (arith, nil_from_length, chars_from_encodes)

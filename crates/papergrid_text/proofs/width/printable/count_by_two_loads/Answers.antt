@@ -15,9 +15,7 @@ returns g c =
     counted_last (is_in_range 0x20 0x7E) bytes (0 + g.row.N) _ g.row.N _ (omega arith) (omega arith) more c.count_in_load.ensures
 
 pub overflow_add-result : goal.overflow_add-result
-overflow_add-result g c =
-    let few = counted_few (is_in_range 0x20 0x7E) c.args.bytes.now _ g.row.N _ (omega arith) c.count_in_load.ensures in
-    omega (arith, c.well_formed)
+overflow_add-result g c = grind (arith, counted_few)
 
 pub returns-then-is_printable_load-2 : goal.returns-then-is_printable_load-2
 returns-then-is_printable_load-2 g c =

@@ -1,11 +1,9 @@
-use Rattle.std.proofs.Common.{◌≤◌, get_or, subst}
-use Rattle.std.specs.Int.{is_in_range}
+use Rattle.std.proofs.Common.{◌≤◌, get_or, subst, arith}
 use Rattle.papergrid_text.proofs.SimpleLemmas.{passed, starts_ideograph, is_three_lead, is_of_three, starts_long}
 use Rattle.papergrid_text.proofs.width.simple.columns_of_long.Goals as goal
 
 pub returns-then-is_in_range : goal.returns-then-is_in_range
-returns-then-is_in_range c =
-    starts_ideograph _ c.utf8.text (passed (is_in_range 0xE4 0xE9) _ _ _ c.is_in_range.ensures c.if-is_in_range.true c.as_bytes.ensures.value)
+returns-then-is_in_range c = grind (arith, starts_ideograph, passed)
 
 pub returns : goal.returns
 returns c =

@@ -1,5 +1,4 @@
-use Rattle.std.specs.Int.{is_in_range}
-use Rattle.std.proofs.Common.{sym, ◌∙◌}
+use Rattle.std.proofs.Common.{arith}
 use Rattle.papergrid_text.proofs.SimpleLemmas.{cut_lam, lam_and_alef, lam_at_end, lam_in_word, passed}
 use Rattle.papergrid_text.proofs.width.simple.first_lam.Goals as goal
 
@@ -10,11 +9,7 @@ pub returns-then-is_word_end : goal.returns-then-is_word_end
 returns-then-is_word_end c = lam_at_end _ _ c.utf8.text c.requires c.range_from-rest.ensures.value c.range_from-rest.utf8 (c.is_word_end.ensures.ends c.if-is_word_end.true)
 
 pub returns-then-is_alef : goal.returns-then-is_alef
-returns-then-is_alef c =
-    let lead = passed (is_in_range 0xD7 0xD9) _ _ _ c.is_in_range.ensures c.if-not-is_in_range.false c.as_bytes.ensures.value in
-    lam_and_alef _ _ _ c.utf8.text c.requires c.range_from-rest.ensures.value c.range_from-rest.utf8 lead c.first_of_two-next.ensures (sym c.is_alef.ensures ∙ c.if-is_alef.true)
+returns-then-is_alef c = grind (arith, passed, lam_and_alef)
 
 pub returns-then-is_semitic_letter : goal.returns-then-is_semitic_letter
-returns-then-is_semitic_letter c =
-    let lead = passed (is_in_range 0xD7 0xD9) _ _ _ c.is_in_range.ensures c.if-not-is_in_range.false c.as_bytes.ensures.value in
-    lam_in_word _ _ _ c.utf8.text c.requires c.range_from-rest.ensures.value c.range_from-rest.utf8 lead c.first_of_two-next.ensures (sym c.is_alef.ensures ∙ c.if-is_alef.false) (sym c.is_semitic_letter.ensures ∙ c.if-is_semitic_letter.true)
+returns-then-is_semitic_letter c = grind (arith, passed, lam_in_word)

@@ -2,9 +2,6 @@ use Rattle.std.proofs.Common.{arith}
 use Rattle.papergrid_text.proofs.SimpleLemmas.{piece}
 use Rattle.papergrid_text.proofs.width.simple.first_piece.Goals as goal
 
-pub range_from-requires : goal.range_from-requires
-range_from-requires c = λ some. c.in_ok-columns.ensures.boundary
-
 pub returns : goal.returns
 returns c = piece c.args.text.now c.range_from.result.now c.in_ok-columns.columns c.in_ok-columns.count c.count_run-run.result c.in_ok-columns.ensures c.utf8.text c.range_from.ensures.value c.count_run-run.ensures
 

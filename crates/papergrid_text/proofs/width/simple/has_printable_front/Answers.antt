@@ -7,7 +7,4 @@ as_many : (n count : ℕ) → nat_eq n count ≡ true → count ≤ n
 as_many n count same = grind (arith, nat_tests)
 
 pub returns-then-count-text : goal.returns-then-count-text
-returns-then-count-text c = λ same. record {
-  within = c.if-count-text.true;
-  printable = front_is_printable c.args.text.now c.as_bytes.result.now c.args.count _ _ c.count_printable_bytes.ensures (omega arith) c.as_bytes.ensures.value (as_many _ _ same) c.if-count-text.true;
-}
+returns-then-count-text c = grind (arith, front_is_printable, as_many)

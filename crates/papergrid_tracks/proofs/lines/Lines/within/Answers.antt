@@ -1,4 +1,4 @@
-use Rattle.std.proofs.Common.{◌≡◌, ◌∙◌, ℕ, ◌+◌, ◌-◌, ◌≤◌, Bool, List, length, get_or, take, drop, sym, ap, subst, arith}
+use Rattle.std.proofs.Common.{◌≡◌, ℕ, ◌+◌, ◌-◌, ◌≤◌, Bool, List, length, get_or, take, drop, ap, arith}
 use Rattle.std.specs.Prelude.{count_by}
 use Rattle.std.proofs.lemmas.List.{drop-take, get_or_default, take-take}
 use Rattle.std.proofs.lemmas.List.Sums.{sum_by-take-drop}
@@ -36,15 +36,7 @@ counted-within drawn counts d are inside =
 -- the same of the lines as they are seen, by what is read at the ends
 read-within : (drawn lines : List Bool) (counts : List ℕ) (d : Demand) (last first : ℕ) → drawn ≡ lines → AreCountsBefore drawn counts → IsInTable (length lines) d →
     last ≡ get_or counts (end_of d) last → first ≡ get_or counts (d.start + 1) first → last ≡ first + inner_lines (line_at lines) d
-read-within drawn lines counts d last first kept are inside read_last read_first =
-    let inside' : IsInTable (length drawn) d = subst (λ xs. IsInTable (length xs) d) (sym kept) inside in
-    let one : 1 ≤ d.span = inside'.covers_one in
-    let ends : end_of d ≤ length drawn = inside'.ends_within in
-    let many : length counts ≡ length drawn + 1 = are.one_more in
-    let last' : last ≡ get_or counts (end_of d) 0 = read_last ∙ get_or_default counts (end_of d) last 0 (omega arith) in
-    let first' : first ≡ get_or counts (d.start + 1) 0 = read_first ∙ get_or_default counts (d.start + 1) first 0 (omega arith) in
-    let within = counted-within drawn counts d are inside' in
-    subst (λ xs. last ≡ first + inner_lines (line_at xs) d) kept (omega (arith, within))
+read-within drawn lines counts d last first kept are inside read_last read_first = grind (arith, get_or_default, counted-within)
 
 pub overflow_sub-result : goal.overflow_sub-result
 overflow_sub-result c =
@@ -52,6 +44,4 @@ overflow_sub-result c =
     omega (arith, read)
 
 pub returns : goal.returns
-returns c =
-    let read = read-within c.self.inside.drawn.items _ c.self.inside.counts.items c.args.demand c.index.result.now c.index-2.result.now c.self.view_is c.self.invariant c.requires c.index.ensures c.index-2.ensures in
-    omega (arith, read)
+returns c = grind (arith, read-within)

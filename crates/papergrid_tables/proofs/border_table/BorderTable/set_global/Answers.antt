@@ -1,5 +1,0 @@
-use Rattle.papergrid_tables.proofs.BorderHistory.{history_set_global}
-use Rattle.papergrid_tables.proofs.border_table.BorderTable.set_global.Goals as goal
-
-pub returns : goal.returns
-returns g c = rw (← c.self.view_is) (history_set_global c.self.inside.global c.self.inside.frame c.self.inside.horizontal_lines.values.entries c.self.inside.vertical_lines.values.entries c.self.inside.horizontal_edges.values.entries c.self.inside.vertical_edges.values.entries c.self.inside.corners.values.entries c.args.value)
