@@ -1,7 +1,7 @@
 -- The drawing of a table whose cells are all alike.
-use Rattle.std.proofs.Common.{◌≡◌, ◌≢◌, ◌⊎◌, ◌∙◌, ◌+◌, ◌≤◌, ℕ, zero, suc, Global, List, Option, Vec, ap, arith, inl, inr, length, map, refl, subst, sym}
+use Rattle.std.proofs.Common.{◌≡◌, ◌≢◌, ◌⊎◌, ◌∙◌, ◌≤◌, ℕ, zero, suc, Global, List, Option, Vec, ap, arith, inl, inr, length, map, refl, subst, sym, rules}
 use Rattle.std.specs.Prelude.{slice_index}
-use Rattle.std.specs.List.{range_with_len, sum_by}
+use Rattle.std.specs.List.{range_with_len}
 use Rattle.std.specs.declared.alloc.AllocError.{AllocError}
 use Rattle.std.proofs.lemmas.List.{length-map}
 use Rattle.std.proofs.lemmas.List.Sums.{sum_by-cons}
@@ -28,11 +28,7 @@ heights_same (suc n) h k same = ap (λ height. map (λ _. height) (range_with_le
 -- one row is no higher than all
 one_of_all : (h n : ℕ) → n ≢ 0 → h ≤ sum_from (slice_index (map (λ _. h) (range_with_len 0 n))) 0 (length (map (λ _. h) (range_with_len 0 n)))
 one_of_all h zero some = absurd (some refl)
-one_of_all h (suc n) some =
-    let size : ℕ → ℕ = slice_index (map (λ _. h) (range_with_len 0 (suc n))) in
-    let more : List ℕ = range_with_len (0 + 1) (length (map (λ _. h) (range_with_len (0 + 1) n))) in
-    let within : h ≤ h + sum_by size more = omega arith in
-    subst (λ all. h ≤ all) (sym (sum_by-cons size 0 more)) within
+one_of_all h (suc n) some = search (rules, sum_by-cons)
 
 module _ {T : Type 0} (text : T → List ℕ) (tells : List (List T) → Type 0) (columns : ℕ) (compact : CompactConfig) (widths : ℕ → ℕ) where
   -- the drawing of a compact table is one of the rows yielded

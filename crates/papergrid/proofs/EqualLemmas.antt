@@ -1,9 +1,8 @@
 -- Values are equal exactly where they are the same.
-use Rattle.std.proofs.Common.{◌≡◌, ◌&&◌, ap, refl, subst, true}
-use Rattle.std.specs.Prelude.{◌↔◌, nat_eq}
+use Rattle.std.proofs.Common.{◌≡◌, ap, refl, subst, true, arith}
+use Rattle.std.specs.Prelude.{◌↔◌}
 use Rattle.std.specs.Cmp.{nat_eq_equiv}
 use Rattle.std.proofs.lemmas.Bool.{and_from, and_parts, eqb-true}
-use Rattle.papergrid_values.specs.contracts.position.PositionPartialEq.TheImpl as position
 use Rattle.papergrid_layout.proofs.EqualLemmas.{same-position}
 use Rattle.papergrid_draw.specs.declared.error.DrawError.{DrawError}
 use Rattle.papergrid_draw.specs.declared.error.DrawError.TheVariants as draw_errors
@@ -54,24 +53,12 @@ same-failed x y = (λ is. refl, λ e. refl)
 
 itself-reason : (x : Reason) → reason.ghosts.eq x x ≡ true
 itself-reason (BadLine number) = nat_eq_equiv.refl number
-itself-reason (OutOfTable place spans shape) =
-    and_from _ _ (and_from _ _ (nat_eq_equiv.refl place.row) (nat_eq_equiv.refl place.col))
-    (and_from _ _ (and_from _ _ (nat_eq_equiv.refl spans.0) (nat_eq_equiv.refl spans.1)) (and_from _ _ (nat_eq_equiv.refl shape.0) (nat_eq_equiv.refl shape.1)))
+itself-reason (OutOfTable place spans shape) = grind (arith, and_from)
 itself-reason TooLarge = refl
 
 equal-reason : (x y : Reason) → reason.ghosts.eq x y ≡ true → x ≡ y
 equal-reason (BadLine m) (BadLine n) is = ap (λ k. BadLine k) (eqb-true m n is)
-equal-reason (OutOfTable p s g) (OutOfTable q t h) is =
-    let first = and_parts (position.ghosts.eq p q) _ is in
-    let rest = and_parts _ (nat_eq g.0 h.0 && nat_eq g.1 h.1) first.1 in
-    let spans = and_parts (nat_eq s.0 t.0) (nat_eq s.1 t.1) rest.0 in
-    let shape = and_parts (nat_eq g.0 h.0) (nat_eq g.1 h.1) rest.1 in
-    let place = (same-position p q).0 first.0 in
-    let rows = eqb-true s.0 t.0 spans.0 in
-    let columns = eqb-true s.1 t.1 spans.1 in
-    let down = eqb-true g.0 h.0 shape.0 in
-    let across = eqb-true g.1 h.1 shape.1 in
-    λ i. OutOfTable (place i) (rows i, columns i) (down i, across i)
+equal-reason (OutOfTable p s g) (OutOfTable q t h) is = grind (arith, and_parts, same-position, eqb-true)
 equal-reason TooLarge TooLarge is = refl
 equal-reason x y is = cc
 

@@ -65,9 +65,7 @@ module _ {A B : Type 0} (of : A → B) (lines : B → List (List ℕ × ℕ)) (o
 
   -- where cells have the lines of what is made of them, so do rows of them
   pub lines_of_made : (rows : List (List A)) (p : Position) → lines_at others rows p ≡ lines_at lines (map (map of) rows) p
-  lines_of_made rows p =
-      lines_in_row p.col (slice_get rows p.row)
-      ∙ sym (ap (λ row. lines_of lines (option_and_then (λ cells. slice_get cells p.col) row)) (slice_get-map (map of) rows p.row))
+  lines_of_made rows p = grind (arith, lines_in_row, slice_get-map)
 
   -- and the drawings of the rows are one
   pub same_drawing : (rows : List (List A)) (parts : TableParts) (color : Position → Option (List ℕ × List ℕ)) →

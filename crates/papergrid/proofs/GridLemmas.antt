@@ -1,5 +1,5 @@
 -- Tables with the sizes of a dimension, and why they are not drawn.
-use Rattle.std.proofs.Common.{◌≡◌, ◌∙◌, ℕ, Global, List, Option, Vec, length, map, refl, subst, sym, ap}
+use Rattle.std.proofs.Common.{◌≡◌, ◌∙◌, ℕ, Global, List, Option, Vec, length, map, refl, subst, sym, arith}
 use Rattle.std.proofs.lemmas.List.{length-map}
 use Rattle.papergrid_values.specs.declared.position.Position.{Position}
 use Rattle.papergrid_config.specs.declared.spanned.SpannedConfig.{SpannedConfig}
@@ -35,16 +35,7 @@ module _ {T C K : Type 0} (lines_in : List ℕ → List (List ℕ × ℕ)) (text
       P parts (drawn_of (λ held. lines_at lines_in (map (λ row. map text row.items) held)) (λ _. texts_at texts color_at colors) parts rows)) →
       (let parts = parts_of config widths heights (length (map (λ row. row.items) others), other_columns) in
       P parts (drawing_of_rows (λ cell. lines_in (text cell)) parts (map (λ row. row.items) others) (texts_at texts color_at colors)))
-  drawn_rows n k r is =
-      let drawn : ℕ → ℕ → (Position → List (List ℕ × ℕ)) → Type 0 = λ i j lines.
-      P (parts_of config widths heights (i, j)) (drawn_of (λ _. lines) (λ _. texts_at texts color_at colors) (parts_of config widths heights (i, j)) others) in
-      let items : Vec T Global → List T = λ row. row.items in
-      let before : Position → List (List ℕ × ℕ) = lines_at lines_in (map (λ (row : Vec T Global). map text row.items) rows) in
-      let after : Position → List (List ℕ × ℕ) = lines_at (λ cell. lines_in (text cell)) (map items others) in
-      let lines : before ≡ after =
-      λ i p. (ap (λ held. lines_at lines_in (map (λ (row : Vec T Global). map text row.items) held) p) r ∙ lines_of_texts lines_in text others p) i in
-      subst (λ i. drawn i other_columns after) (n ∙ sym (length-map others items))
-      (subst (λ j. drawn count j after) k (subst (λ l. drawn count columns l) lines is))
+  drawn_rows n k r is = grind (arith, lines_of_texts, length-map)
 
 -- the drawing of rows of texts that are held is one of the rows yielded
 pub text_drawing : {T C K : Type 0} (text : T → List ℕ) (texts : K → List ℕ × List ℕ) (color_at : C → Position → Option K)
@@ -73,9 +64,7 @@ pub held_drawing : {T C K : Type 0} (text : T → List ℕ) (texts : K → List 
 held_drawing {T = T} {C = C} text texts color_at config widths heights tells columns held shape rows lent colors told wide s r l =
     let drawn : ℕ × ℕ → C → Drawing = λ n k. drawn_of (λ h. lines_at text_lines (map (λ (row : Vec T Global). map text row.items) h))
     (λ _. texts_at texts color_at k) (parts_of config widths heights n) rows in
-    let Is : Drawing → Type 0 = IsTextDrawing text tells columns config widths heights (texts_at texts color_at colors) in
-    subst (λ n. Is (drawn n lent)) (sym s) (subst (λ k. Is (drawn (length held.rows.items, held.columns) k)) (sym l)
-    (text_drawing text texts color_at config widths heights tells (length held.rows.items) held.columns columns rows held.rows.items colors refl wide r told))
+    grind (arith, drawn, text_drawing)
 
 -- sizes for rows that are yielded are sizes for those that are held
 pub sized_rows : {A B : Type 0} (has : ℕ → Type 0) (held : A → B) (rows : List A) (count : ℕ) →

@@ -1,5 +1,5 @@
 -- Rows held, one more at a time, and their texts.
-use Rattle.std.proofs.Common.{◌≡◌, ◌++◌, ◌∙◌, ℕ, Global, List, [], ◌∷◌, Vec, ap, map, refl, subst, sym}
+use Rattle.std.proofs.Common.{◌≡◌, ◌++◌, ◌∙◌, ℕ, Global, List, [], ◌∷◌, Vec, ap, map, refl, subst, sym, arith}
 use Rattle.std.specs.List.{AllZip}
 use Rattle.std.proofs.lemmas.List.{map-append}
 use Rattle.std.proofs.lemmas.Simd.{map-map}
@@ -10,8 +10,7 @@ use Rattle.papergrid.proofs.FirstLines.{lines_of_made}
 
 pub zip_pushed : {A B C : Type 0} (R : A → B → Type 0) (f : C → B) (xs : List A) (held pushed : List C) (x : A) (y : C) →
     pushed ≡ held ++ y ∷ [] → AllZip R xs (map f held) → R x (f y) → AllZip R (xs ++ x ∷ []) (map f pushed)
-zip_pushed R f xs held pushed x y is so_far next =
-    subst (λ ys. AllZip R (xs ++ x ∷ []) ys) (sym (ap (map f) is ∙ map-append f held (y ∷ []))) (zip_more R xs (map f held) x (f y) so_far next)
+zip_pushed R f xs held pushed x y is so_far next = grind (arith, map-append, zip_more)
 
 pub zip_none : {A B C : Type 0} (R : A → B → Type 0) (f : C → B) (held : List C) → held ≡ [] → AllZip R [] (map f held)
 zip_none R f held is = subst (λ ys. AllZip R [] (map f ys)) (sym is) tt

@@ -1,5 +1,5 @@
 -- What a printer leaves, by what is drawn.
-use Rattle.std.proofs.Common.{◌≡◌, ◌≢◌, ◌∙◌, ◌++◌, Bool, ℕ, [], Err, Global, List, Ok, Option, Result, ap, inl, inr, refl, string_bytes}
+use Rattle.std.proofs.Common.{◌≡◌, ◌≢◌, ◌∙◌, ◌++◌, Bool, ℕ, [], Err, Global, List, Ok, Option, Result, ap, inl, inr, refl, string_bytes, arith}
 use Rattle.std.specs.Prelude.{String}
 use Rattle.std.proofs.lemmas.Fmt.{contents_after_writes}
 use Rattle.papergrid_values.specs.declared.position.Position.{Position}
@@ -61,10 +61,7 @@ pub sink-prints : (IsDrawn : Drawing → Type 0) {W : Type 0} (contents : W → 
 sink-prints IsDrawn contents has_failed has_stalled old new (Ok x) p = (p.0, p.1, p.2, taken-calls contents has_failed has_stalled old (printed p.0) new p.3)
 sink-prints IsDrawn contents has_failed has_stalled {A = A} old new (Err e) p = record {
   fault = p.fault;
-  nothing = λ named. elim p.left [
-    | inl same ↦ same.1
-    | inr so ↦ (sink-left contents has_failed has_stalled {A = A} old new (printed so.0) (Err e) so.3).nothing named
-  ];
+  nothing = grind (arith, sink-left);
   left = elim p.left [
     | inl same ↦ inl same
     | inr so ↦ inr (so.0, so.1, so.2, sink-left contents has_failed has_stalled {A = A} old new (printed so.0) (Err e) so.3)

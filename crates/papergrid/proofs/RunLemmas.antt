@@ -1,5 +1,5 @@
 -- What runs write, and how they end.
-use Rattle.std.proofs.Common.{◌≡◌, ◌≢◌, ◌∙◌, ℕ, Bool, List, Option, Result, Vec, Global, Ok, Err, ap, inl, inr, refl, subst, sym}
+use Rattle.std.proofs.Common.{◌≡◌, ◌≢◌, ◌∙◌, ℕ, Bool, List, Option, Result, Vec, Global, Ok, Err, ap, inl, inr, refl, subst, sym, arith}
 use Rattle.std.specs.Prelude.{◌↔◌, ⊤}
 use Rattle.papergrid_config.specs.declared.setting.Setting.{Setting}
 use Rattle.papergrid_config.specs.declared.spanned.SpannedConfig.{SpannedConfig}
@@ -22,7 +22,6 @@ use Rattle.papergrid_script.specs.Writing.{IsBrokenOff, WritesOutput}
 use Rattle.papergrid_script.proofs.RunLemmas.{runs-also}
 use Rattle.papergrid_text.specs.Transfer.{IsTaken}
 use Rattle.papergrid_draw.specs.Sinks.{IsRefusal, IsUndrawn}
-use Rattle.papergrid_draw.proofs.SinkLemmas.{undrawn-beginning, undrawn-steady, undrawn-write}
 
 -- something is written at any end
 abbrev Any : RunEnd → Type 0
@@ -32,18 +31,7 @@ Any end = ⊤
 pub picture-broken : {W E : Type 0} (contents : W → Option (List ℕ)) (has_failed has_stalled : W → Bool) (IsSo : Drawing → Type 0) (IsWhy : DrawError → Type 0) (IsOutput : E → List ℕ → Type 0)
     (end : E) → ((d : Drawing) → IsSo d → IsDrawable d → IsOutput end (lined d)) → (old new : W) (e : DrawError) (fault : RunFault) → fault ≢ run_faults.Read → (fault ≡ run_faults.Write) ↔ (e ≡ draw_errors.Write) →
     IsUndrawn contents has_failed has_stalled IsSo IsWhy lined old new e → IsBrokenOff contents has_failed has_stalled (λ _. ⊤) IsOutput old new fault
-picture-broken contents has_failed has_stalled IsSo IsWhy IsOutput end is old new e fault not_read follows so = record {
-  not_read = not_read;
-  beginning = elim (undrawn-beginning contents has_failed has_stalled IsSo IsWhy lined old new e so) [
-    | inl same ↦ inl same
-    | inr begun ↦ inr (end, tt, (lined begun.0, is begun.0 begun.1 begun.2, begun.3))
-  ];
-  write = λ at. undrawn-write contents has_failed has_stalled IsSo IsWhy lined old new e so (follows.0 at);
-  steady = elim (undrawn-steady contents has_failed has_stalled IsSo IsWhy lined old new e so) [
-    | inl at ↦ inl (follows.1 at)
-    | inr steady ↦ inr steady
-  ];
-}
+picture-broken contents has_failed has_stalled IsSo IsWhy IsOutput end is old new e fault not_read follows so = grind arith
 
 module _ {W : Type 0} (contents : W → Option (List ℕ)) (has_failed has_stalled : W → Bool) where
   module _ (sizing : Sizing) (table : Table) (config : SpannedConfig) (told : HasSettingHistory table.settings config) where
@@ -109,10 +97,5 @@ module _ {R W : Type 0} (remaining : R → Option (List ℕ)) (read_failed : R �
   pub runs-unseen : {IsOutput : RunEnd → List ℕ → Type 0} (result : Result RunEnd RunFault) →
       Runs remaining read_failed contents has_failed has_stalled reader_old reader_new writer_old writer_new before input IsOutput result →
       Runs remaining read_failed contents has_failed has_stalled reader_old reader_new writer_old writer_new input input IsOutput result
-  runs-unseen (Ok end) runs = record {
-    written = runs.written;
-    ran = runs.ran;
-    fault = tt;
-    beginning = tt;
-  }
+  runs-unseen (Ok end) runs = grind arith
   runs-unseen (Err fault) runs = record { written = tt; ran = tt; fault = broke-unseen fault runs.fault; beginning = runs.beginning }

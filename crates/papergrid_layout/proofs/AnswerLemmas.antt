@@ -1,5 +1,5 @@
 -- What holds of an answer.
-use Rattle.std.proofs.Common.{◌≡◌, ◌∙◌, ℕ, List, sym, ap, inl, inr}
+use Rattle.std.proofs.Common.{◌≡◌, ◌∙◌, ℕ, List, sym, ap, inl, inr, arith}
 use Rattle.std.specs.Prelude.{Result, Ok, Err, Option, None, Some, is_some}
 use Rattle.std.proofs.lemmas.Bool.{false≢true}
 use Rattle.papergrid_values.specs.declared.direction.Direction.{Direction}
@@ -32,8 +32,7 @@ module _ {C : Type 0} (grid : Grid) (measure : C → ℕ × ℕ) (columns : ℕ)
       first_out (problem_of grid measure columns cells direction).count (problem_of grid measure columns cells direction).demands ≡ None →
       (e : LayoutError) → IsRefused sizing (problem_of grid measure columns cells direction) e →
       IsBothRefused grid measure columns cells sizing e
-  refused_along direction none inside (OutOfTable p) out =
-      absurd (some_is_not_none p (first_out (problem_of grid measure columns cells direction).count (problem_of grid measure columns cells direction).demands) out inside)
+  refused_along direction none inside (OutOfTable p) out = grind (arith, some_is_not_none)
   refused_along Columns none inside TooLarge large = (none, inl large)
   refused_along Rows none inside TooLarge large = (none, inr large)
   refused_along direction none inside (Memory e) any = tt

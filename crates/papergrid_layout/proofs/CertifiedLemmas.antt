@@ -1,5 +1,5 @@
 -- What the solvers find, of cells that are walked by row and then by column.
-use Rattle.std.proofs.Common.{ℕ, Bool, true, List, refl}
+use Rattle.std.proofs.Common.{ℕ, Bool, true, List, refl, arith}
 use Rattle.std.specs.Prelude.{Result, Ok, Err}
 use Rattle.papergrid_values.specs.declared.per_direction.PerDirection.{PerDirection}
 use Rattle.papergrid_maps.specs.Grids.{Grid}
@@ -19,12 +19,7 @@ module _ (sizing : Sizing) (certify : Bool) (problem : Problem) (ordered : Stand
   -- what certifies the sizes is known, since the demands stand in order
   pub solved-in_order : (solved : Solved) → IsSolvedBy sizing (CertifiesInOrder sizing) certify problem solved →
       IsSolvedBy sizing (Certifies sizing) certify problem solved
-  solved-in_order solved is = record {
-    sizes = is.sizes;
-    total = is.total;
-    asked = λ asked. Certifies-in_order sizing problem solved.certificate ordered (is.asked asked);
-    unasked = is.unasked;
-  }
+  solved-in_order solved is = grind (arith, Certifies-in_order)
 
   pub answers-in_order : (result : Result Solved LayoutError) → Answers sizing (IsSolvedBy sizing (CertifiesInOrder sizing) certify) problem result →
       Answers sizing (IsSolvedBy sizing (Certifies sizing) certify) problem result
@@ -41,14 +36,7 @@ module _ {C : Type 0} (grid : Grid) (measure : C → ℕ × ℕ) (columns : ℕ)
 
   -- with the certificates that were asked for
   pub certified : (result : Result (PerDirection Solved) LayoutError) → Told (IsSolvedBy sizing (Certifies sizing) true) result → Told (IsCertifiedBy sizing) result
-  certified (Ok found) told = (
-    told.0,
-    told.1,
-    record {
-      widths = certified-along _ found.columns told.2.widths;
-      heights = certified-along _ found.rows told.2.heights;
-    },
-  )
+  certified (Ok found) told = grind (arith, certified-along)
   certified (Err (OutOfTable p)) told = told
   certified (Err TooLarge) told = told
   certified (Err (Memory e)) told = told

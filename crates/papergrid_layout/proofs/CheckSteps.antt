@@ -1,5 +1,5 @@
 -- The steps of a checker's walk, and what it concludes.
-use Rattle.std.proofs.Common.{◌≡◌, ◌==◌, ◌&&◌, ℕ, ◌+◌, ◌<◌, ◌≤◌, Bool, true, false, ◌⊎◌, inl, inr, List, [], ◌∷◌, length, count_by, get_or, sym, ap, ◌∙◌, arith, subst}
+use Rattle.std.proofs.Common.{◌≡◌, ◌==◌, ◌&&◌, ℕ, ◌+◌, ◌<◌, ◌≤◌, Bool, true, false, ◌⊎◌, inl, inr, List, [], ◌∷◌, length, count_by, get_or, sym, ◌∙◌, arith, subst}
 use Rattle.std.specs.Prelude.{All, Contains, IsTrue, ◌↔◌}
 use Rattle.std.proofs.lemmas.Bool.{and_parts, cases_Bool, eqb-true, false≢true, true≢false}
 use Rattle.std.proofs.lemmas.List.Elements.{All-contains, All-map, All-weaker, filter_passes}
@@ -8,7 +8,7 @@ use Rattle.papergrid_tracks.specs.declared.checked.Checked.{Checked}
 use Rattle.papergrid_tracks.specs.declared.candidate.Candidate.{Candidate}
 use Rattle.papergrid_values.specs.declared.direction.Direction.{Direction}
 use Rattle.papergrid_tracks.specs.Answers.{IsAccepted}
-use Rattle.papergrid_tracks.specs.Fits.{Fits, IsLeast}
+use Rattle.papergrid_tracks.specs.Fits.{IsLeast}
 use Rattle.papergrid_tracks.specs.Problem.{Problem}
 use Rattle.papergrid_tracks.specs.Ranges.{demand_of, position_of}
 use Rattle.papergrid_tracks.proofs.AcceptLemmas.{few_positions}
@@ -30,9 +30,7 @@ module _ (grid : Grid) (candidate : Candidate) where
         size ≡ side candidate.direction (measure cell) → minimum ≡ size + grid.before candidate.direction position + grid.after candidate.direction position →
         ChecksMore grid candidate old new (demand_of candidate.direction position (grid.span candidate.direction position) minimum ∷ []) →
         ChecksMore grid candidate old new (demands_by candidate.direction grid measure ((position, cell) ∷ []))
-    check_shown old new position cell size minimum t measured same more =
-        let whole = same ∙ ap (λ n. n + grid.before candidate.direction position + grid.after candidate.direction position) measured in
-        rw t (subst (λ n. ChecksMore grid candidate old new (demand_of candidate.direction position (grid.span candidate.direction position) n ∷ [])) whole more)
+    check_shown old new position cell size minimum t measured same more = grind arith
 
     -- one that changes nothing may be either
     pub check_same : (old new : Checked) (position : Position) (cell : C) (size minimum : ℕ) → new ≡ old →
@@ -47,15 +45,7 @@ module _ (grid : Grid) (candidate : Candidate) where
 -- what is found of a table with as many tracks as sizes holds of the table itself, since the sizes are as many
 pub checked-of : (problem : ℕ → Problem) (sizes : List ℕ) (positions : List Position) (answer : Bool) (count : ℕ) → ((n : ℕ) → (problem n).count ≡ count) →
     IsTrue answer ↔ IsAccepted (problem (length sizes)) sizes positions → (IsTrue answer → IsLeast (problem (length sizes)) sizes) → IsChecked (problem count) sizes positions answer
-checked-of problem sizes positions answer count counts exact least =
-    let many : (n : ℕ) → Fits (problem n) sizes → length sizes ≡ count = λ n fits. fits.one_each ∙ counts n in
-    record {
-      exact = (
-        λ t. let accepted = exact.0 t in subst (λ n. IsAccepted (problem n) sizes positions) (many (length sizes) accepted.fits) accepted,
-        λ accepted. exact.1 (subst (λ n. IsAccepted (problem n) sizes positions) (sym (many count accepted.fits)) accepted),
-      );
-      least = λ t. let is = least t in subst (λ n. IsLeast (problem n) sizes) (many (length sizes) is.fits) is;
-    }
+checked-of problem sizes positions answer count counts exact least = grind arith
 
 -- the positions of a certificate are those of visible cells
 shown_places : {C : Type 0} (grid : Grid) (measure : C → ℕ × ℕ) (columns : ℕ) (cells : List (List C)) (direction : Direction) (sizes : List ℕ) (positions : List Position) →

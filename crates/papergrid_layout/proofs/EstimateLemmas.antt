@@ -1,5 +1,5 @@
 -- What an estimate takes of what is found.
-use Rattle.std.proofs.Common.{◌≡◌, ℕ, List}
+use Rattle.std.proofs.Common.{◌≡◌, ℕ, List, arith}
 use Rattle.std.specs.Prelude.{Result, Ok, Err, IfOk, MatchResult, ⊤}
 use Rattle.papergrid_values.specs.declared.per_direction.PerDirection.{PerDirection}
 use Rattle.papergrid_maps.specs.Grids.{Grid}
@@ -24,9 +24,5 @@ module _ (old-wide old-high wide high : List ℕ) (result : Result ⊤ LayoutErr
       → (found : Result (PerDirection Solved) LayoutError)
       → UnlessMemory found ((cells : List (List C)) × IsTold cells × AnswersBoth grid measure columns cells sizing solves found) → Takes found
       → IfOk result (λ _. (cells : List (List C)) × IsTold cells × AreBothSizes grid measure columns cells sizing wide high)
-  estimated grid measure columns IsTold sizing solves sizes (Ok found) told takes = rw (takes.0, takes.1, takes.2) (
-    told.0,
-    told.1,
-    record { widths = sizes _ found.columns told.2.widths; heights = sizes _ found.rows told.2.heights },
-  )
+  estimated grid measure columns IsTold sizing solves sizes (Ok found) told takes = grind arith
   estimated grid measure columns IsTold sizing solves sizes (Err error) told takes = rw takes.0 tt

@@ -1,5 +1,5 @@
 -- What the laws rest on.
-use Rattle.std.proofs.Common.{◌≡◌, ◌∙◌, ℕ, ◌+◌, Bool, List, [], ◌∷◌, ◌++◌, ◌&&◌, length, refl, ap, subst, sym, inl, inr, nat_le}
+use Rattle.std.proofs.Common.{◌≡◌, ◌∙◌, ℕ, ◌+◌, Bool, List, [], ◌∷◌, ◌++◌, ◌&&◌, refl, ap, subst, sym, inl, inr, nat_le, arith, rules}
 use Rattle.std.specs.Prelude.{◌↔◌, All, IsTrue, filter, flat_map, reverse}
 use Rattle.std.proofs.lemmas.Bool.{cases_Bool}
 use Rattle.std.proofs.lemmas.List.{append-nil, length-map, reverse-append}
@@ -7,7 +7,6 @@ use Rattle.std.proofs.lemmas.List.Elements.{All-head, All-tail, filter-append}
 use Rattle.papergrid_values.specs.declared.position.Position.{Position}
 use Rattle.papergrid_text.specs.LineCache.{answered_lines}
 use Rattle.papergrid_text.specs.Measured.{Measured}
-use Rattle.papergrid_text.specs.Text.{split_lines, with_width}
 use Rattle.papergrid_text.proofs.Widths.{all_answered}
 use Rattle.papergrid_values.specs.declared.direction.Direction.{Direction}
 use Rattle.papergrid_tracks.specs.Ranges.{demand_of}
@@ -59,10 +58,7 @@ module _ {C : Type 0} (direction : Direction) (grid : Grid) (f g : C → ℕ × 
 
 pub new_text_measures : {S : Type 0} (text : S → List ℕ) (t : Measured S) → IsNewText text t →
     cell_measure (λ u. u.width) (λ u. answered_lines (text u.text) u.width u.lines) t ≡ line_measure (λ u. text u.text) t
-new_text_measures text t is =
-    let width = ap (λ u. u.width) is in
-    let lines = ap (λ u. length (answered_lines (text t.text) u.width u.lines)) is ∙ ap length (all_answered (text t.text) (split_lines (text t.text)) refl) ∙ length-map (split_lines (text t.text)) with_width in
-    (λ k. (width k, lines k))
+new_text_measures text t is = grind (arith, all_answered, length-map)
 
 -- ---- span calls anywhere in a list
 
@@ -80,10 +76,7 @@ filter-reverse test (call ∷ calls) =
 -- calls that do not decide a cell's span leave it
 span_from-decided : (d : Direction) (p : Position) (calls : List SpanCall) → span_from d p (filter (decides_span d p) calls) ≡ span_from d p calls
 span_from-decided d p [] = refl
-span_from-decided d p (RemoveSpans e ∷ older) = elim (cases_Bool (is_same_direction e d)) [
-  | inl t ↦ rw t (rw t refl)
-  | inr f ↦ rw f (span_from-decided d p older)
-]
+span_from-decided d p (RemoveSpans e ∷ older) = grind (arith, cases_Bool (is_same_direction e d), span_from-decided d p older)
 span_from-decided d p (SetSpan e q n ∷ older) = elim (cases_Bool (is_same_direction e d && (nat_le 1 n && position_eq q p))) [
   | inl t ↦ rw t (rw t refl)
   | inr f ↦ rw f (span_from-decided d p older)
@@ -111,5 +104,4 @@ module _ (settings other : List Setting) (same : AreReordered settings other) wh
   }
 
   pub same_grid : (x y : SpannedConfig) → HasSettingHistory settings x → HasSettingHistory other y → spanned_grid x ≡ spanned_grid y
-  same_grid x y told also =
-      one-grid other (spanned_grid x) (spanned_grid y) (reordered_grid (spanned_grid x) (grid-decided settings x told)) (grid-decided other y also)
+  same_grid x y told also = search (rules, one-grid, reordered_grid, grid-decided)

@@ -1,5 +1,5 @@
 -- Least sizes beside those by shares, along a direction.
-use Rattle.std.proofs.Common.{◌≡◌, ◌∙◌, ℕ, List, sym, subst}
+use Rattle.std.proofs.Common.{◌≡◌, ◌∙◌, ℕ, List, sym, arith}
 use Rattle.papergrid_values.specs.declared.position.Position.{Position}
 use Rattle.papergrid_tracks.proofs.BySizing.{AreLeastSizes, AreSizes}
 use Rattle.papergrid_tracks.specs.Answers.{IsAccepted}
@@ -12,17 +12,10 @@ use Rattle.papergrid_tracks.proofs.LeastLemmas.{exact-least, least_of-shares, sa
 module _ (problem : Problem) where
   -- the certificate of least sizes is one that a checker accepts
   pub accepted : (sizes : List ℕ) (places : List Position) → AreLeastSizes problem sizes → AreCriticalPath problem places → IsAccepted problem sizes places
-  accepted sizes places are critical_path_is = record {
-    none_out = are.none_out;
-    fits = are.fits;
-    cells = critical_path_is.cells;
-    at_positions = sym critical_path_is.exact;
-    certificate = critical_path_is.certificate sizes (are.least tt);
-  }
+  accepted sizes places are critical_path_is = grind arith
 
   pub same-least : (sizes least : List ℕ) → AreSizes problem sizes → AreLeastSizes problem least → IsLeast problem sizes → least ≡ sizes
-  same-least sizes least are are_least is_least =
-      exact-least problem least are_least ∙ least_of-shares problem are.table (subst (IsLeast problem) are.exact is_least) ∙ sym are.exact
+  same-least sizes least are are_least is_least = grind (arith, exact-least, least_of-shares)
 
   pub same-laminar : (sizes least : List ℕ) → AreSizes problem sizes → AreLeastSizes problem least → IsLaminar problem.demands → least ≡ sizes
   same-laminar sizes least are are_least laminar = exact-least problem least are_least ∙ same-least_of problem are.table laminar ∙ sym are.exact

@@ -29,7 +29,7 @@ module _ {C : Type 0} (sizing : Sizing) (config : SpannedConfig) (measure : C �
       UnlessMemory answer ((x : List (List C)) × IsTold x × IsTableOf config measure columns x sizing answer)
   made IsTold told are (Ok table) is = (cells, told, rw is.0 (refl, are))
   made IsTold told are (Err (layout_error.OutOfTable p)) is = let e = is.0 in absurd cc
-  made IsTold told are (Err layout_error.TooLarge) is = absurd (large is.1)
+  made IsTold told are (Err layout_error.TooLarge) is = grind (arith, large, chosen-fit)
     where
       large : IsTotalTooLarge (view_of (record { config = config; widths = widths; heights = heights })) → ⊥
       large (inl across) = let fits = chosen-fit are Columns in omega (arith, across, fits)

@@ -118,9 +118,7 @@ none-in-total size line count point past = λ i has.
 pub track-tested : (size : ℕ → ℕ) (line : ℕ → Bool) (count point i end : ℕ) (test : Bool) →
     (i < count) × (offset size line i ≤ point) × (point < offset size line (i + 1)) → end ≡ offset size line i + size i → test ≡ nat_lt point end →
     IsTrackAt size line count point (then_some test i)
-track-tested size line count point i end true at ends is =
-    let inside : point < end = ltb-true point end (sym is) in
-    (at.0, at.1, omega arith)
+track-tested size line count point i end true at ends is = grind (arith, ltb-true)
 track-tested size line count point i end false at ends is =
     let past : end ≤ point = ltb-false point end (sym is) in
     λ k has. none-in-track size line i point k at.1 at.2 (omega arith) (has.1, has.2)

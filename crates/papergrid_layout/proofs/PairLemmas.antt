@@ -1,6 +1,6 @@
 -- The first cell out of the table, by what is kept for both directions.
-use Rattle.std.proofs.Common.{◌≡◌, ℕ, ◌+◌, ◌<◌, ◌≢◌, inl, inr, List, [], ◌∷◌, length, map, refl, ap, ap₂, sym, subst, ◌∙◌, arith, nat_lt, eq-eqb, ne_eqb, le-ltb, lt-ltb, suc}
-use Rattle.std.specs.Prelude.{◌↔◌, All, AllPairs, Option, Some, None, is_some, find, unwrap_or}
+use Rattle.std.proofs.Common.{◌≡◌, ℕ, ◌+◌, inl, inr, List, [], ◌∷◌, length, map, refl, ap, ap₂, sym, subst, ◌∙◌, arith, nat_lt, eq-eqb, le-ltb, lt-ltb, suc}
+use Rattle.std.specs.Prelude.{◌↔◌, All, AllPairs, Option, Some, None, is_some, find}
 use Rattle.std.proofs.lemmas.Bool.{cases_Bool, false≢true}
 use Rattle.std.proofs.lemmas.List.Elements.{All-head, All-tail}
 use Rattle.papergrid_values.specs.declared.per_direction.PerDirection.{PerDirection}
@@ -20,19 +20,12 @@ use Rattle.papergrid_layout.specs.Answers.{first_out_of_table, overflows}
 use Rattle.papergrid_layout.specs.ForProofs.Earlier.{earlier, earlier_of}
 
 before-first : (p q : Position) → IsBefore p q → earlier_of p q ≡ p
-before-first p q (inl l) =
-    let ne : q.row ≢ p.row = omega arith in
-    rw (le-ltb q.row p.row (omega arith), ne_eqb q.row p.row ne) refl
-before-first p q (inr l) =
-    let row : p.row ≡ q.row = l.0 in
-    let col : p.col < q.col = l.1 in
-    rw (le-ltb q.row p.row (omega arith), eq-eqb q.row p.row (sym row), le-ltb q.col p.col (omega arith)) refl
+before-first p q (inl l) = grind (arith, le-ltb)
+before-first p q (inr l) = grind (arith, le-ltb, eq-eqb)
 
 before-second : (p q : Position) → IsBefore p q → earlier_of q p ≡ p
 before-second p q (inl l) = rw (lt-ltb p.row q.row l) refl
-before-second p q (inr l) =
-    let row : p.row ≡ q.row = l.0 in
-    rw (le-ltb p.row q.row (omega arith), eq-eqb p.row q.row row, lt-ltb p.col q.col l.1) refl
+before-second p q (inr l) = grind (arith, le-ltb, eq-eqb, lt-ltb)
 
 same-first : (p : Position) → earlier_of p p ≡ p
 same-first p = rw (le-ltb p.row p.row (omega arith), eq-eqb p.row p.row refl, le-ltb p.col p.col (omega arith)) refl
@@ -58,9 +51,7 @@ module _ {C : Type 0} (grid : Grid) (measure : C → ℕ × ℕ) (columns : ℕ)
       (y : Position) → first_out n (map (demand_by direction grid measure) xs) ≡ Some y → P y
   first_out-from P direction n [] all y e = absurd (false≢true (ap is_some e))
   first_out-from P direction n (x ∷ xs) all y e = elim (cases_Bool (nat_lt n (end_of (demand_by direction grid measure x)))) [
-    | inl t ↦
-        let e' : Some x.0 ≡ Some y = rw t at e in
-        subst P (ap (λ o. unwrap_or o y) e') (All-head (λ x. P x.0) x xs all)
+    | inl t ↦ grind (arith, All-head)
     | inr f ↦
         let e' : first_out n (map (demand_by direction grid measure) xs) ≡ Some y = rw f at e in
         first_out-from P direction n xs (All-tail (λ x. P x.0) x xs all) y e'
@@ -105,12 +96,7 @@ module _ {C : Type 0} (grid : Grid) (measure : C → ℕ × ℕ) (columns : ℕ)
     -- where no cell overflows the table, none does along columns, and none along rows
     pub none_out : earlier (first_out columns both.columns.rest.items) (first_out rows both.rows.rest.items) ≡ None →
         (first_out_of_table grid measure columns cells ≡ None) × (first_out columns (demands_of Columns grid measure cells) ≡ None) × (first_out (length cells) (demands_of Rows grid measure cells) ≡ None)
-    none_out none =
-        let each = neither (first_out columns both.columns.rest.items) (first_out rows both.rows.rest.items) none in (
-          sym out_of_both ∙ none,
-          out_kept columns both.columns (demands_of Columns grid measure cells) kept.wide ∙ each.0,
-          out_kept (length cells) both.rows (demands_of Rows grid measure cells) kept.high ∙ ap (λ n. first_out n both.rows.rest.items) (sym many) ∙ each.1,
-        )
+    none_out none = grind (arith, neither, out_of_both, out_kept)
 
     pub seen_high : AreGathered rows both.rows (demands_of Rows grid measure cells)
     seen_high = subst (λ n. AreGathered n both.rows (demands_of Rows grid measure cells)) (sym many) kept.high

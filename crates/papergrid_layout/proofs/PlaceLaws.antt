@@ -12,9 +12,9 @@ use Rattle.papergrid_values.specs.declared.direction.Direction.TheVariants.{Colu
 use Rattle.papergrid_values.specs.Positions.{along}
 use Rattle.papergrid_tracks.specs.declared.demand.Demand.{Demand}
 use Rattle.papergrid_tracks.specs.Sizings.{IsTotal, AreSizesBy}
-use Rattle.papergrid_tracks.specs.Fits.{HasRoom, range_sum}
+use Rattle.papergrid_tracks.specs.Fits.{HasRoom}
 use Rattle.papergrid_tracks.specs.Problem.{Problem, total_of}
-use Rattle.papergrid_tracks.specs.Ranges.{end_of, first_out, inner_lines, position_of}
+use Rattle.papergrid_tracks.specs.Ranges.{end_of, first_out, position_of}
 use Rattle.papergrid_tracks.proofs.OutLemmas.{if_none}
 use Rattle.papergrid_maps.proofs.HiddenLemmas.{position-same}
 use Rattle.papergrid_tracks.proofs.LeastLemmas.{exact-least}
@@ -42,22 +42,11 @@ module _ (size : ℕ → ℕ) (line : ℕ → Bool) where
   IsIn s n x = (offset size line s ≤ x) × (x < offset size line s + extent size line s n)
 
   some_number : (s n x : ℕ) → IsIn s n x → 1 ≤ n
-  some_number s zero x h =
-      let none : extent size line s 0 ≡ 0 = refl in
-      let a : offset size line s ≤ x = h.0 in
-      let b : x < offset size line s + extent size line s 0 = h.1 in
-      absurd (omega arith)
+  some_number s zero x h = grind arith
   some_number s (suc n) x h = omega arith
 
   overlap : (s n t m x : ℕ) → IsIn s n x → IsIn t m x → t < s + n
-  overlap s n t m x h k = elim (cases_lt t (s + n)) [
-    | inl l ↦ l
-    | inr le ↦
-        let before : offset size line s + extent size line s n ≤ offset size line t = extent-before size line s n t le in
-        let a : x < offset size line s + extent size line s n = h.1 in
-        let b : offset size line t ≤ x = k.0 in
-        absurd (omega arith)
-  ]
+  overlap s n t m x h k = grind (arith, cases_lt t (s + n), extent-before)
 
   pub meets : (s n t m x : ℕ) → IsIn s n x → IsIn t m x → Meet s n t m
   meets s n t m x h k =
@@ -83,19 +72,7 @@ apart table p q none x y in_p in_q =
 
 -- two positions are one, or differ
 same-or-other : (p q : Position) → (p ≡ q) ⊎ (p ≢ q)
-same-or-other p q = elim (cases_lt p.row q.row) [
-  | inl above ↦ inr (λ e. let same : p.row ≡ q.row = ap (λ (r : Position). r.row) e in omega arith)
-  | inr from ↦ elim (cases_lt q.row p.row) [
-    | inl below ↦ inr (λ e. let same : p.row ≡ q.row = ap (λ (r : Position). r.row) e in omega arith)
-    | inr level ↦ elim (cases_lt p.col q.col) [
-      | inl left ↦ inr (λ e. let same : p.col ≡ q.col = ap (λ (r : Position). r.col) e in omega arith)
-      | inr right ↦ elim (cases_lt q.col p.col) [
-        | inl beyond ↦ inr (λ e. let same : p.col ≡ q.col = ap (λ (r : Position). r.col) e in omega arith)
-        | inr there ↦ inl (position-same p q (omega arith) (omega arith))
-      ]
-    ]
-  ]
-]
+same-or-other p q = grind (arith, cases_lt p.row q.row, cases_lt q.row p.row, cases_lt p.col q.col, cases_lt q.col p.col, position-same)
 
 pub one-over : (table : TableView) (x y : ℕ) (p : Position) → StandsOver table x y p →
     ((q : Position) → IsInsideTable table q → q ≢ p → HaveNoneInCommon table.grid p q) →
@@ -129,10 +106,7 @@ total-told problem sizes many =
     omega arith
 
 fits-told : (problem : Problem) (sizes : List ℕ) → HaveRoom problem sizes → total (slice_index sizes) problem.line problem.count < 2 ^ 64
-fits-told problem sizes have =
-    let told : total (slice_index sizes) problem.line problem.count ≡ total_of problem sizes = total-told problem sizes have.fits.one_each in
-    let fits : total_of problem sizes < 2 ^ 64 = have.total in
-    omega arith
+fits-told problem sizes have = grind (arith, total-told)
 
 -- the sizes are chosen so, and no others
 only-sizes : (sizing : Sizing) (problem : Problem) (sizes other : List ℕ) → AreSizesBy sizing problem sizes → AreSizesBy sizing problem other → other ≡ sizes
@@ -140,28 +114,18 @@ only-sizes ByShares problem sizes other are is = is.exact ∙ sym are.exact
 only-sizes Least problem sizes other are is = exact-least problem other is ∙ sym (exact-least problem sizes are)
 
 total-sizes : (sizing : Sizing) (problem : Problem) (sizes : List ℕ) → AreSizesBy sizing problem sizes → (answer : ℕ) → IsTotal sizing problem answer ↔ (answer ≡ total (slice_index sizes) problem.line problem.count)
-total-sizes sizing problem sizes are answer =
-    let many = (room-of sizing problem sizes are).fits.one_each in (
-      λ is. is.adds_up ∙ ap (total_of problem) (only-sizes sizing problem sizes is.sizes are is.are_sizes) ∙ sym (total-told problem sizes many),
-      λ e. record { sizes = sizes; are_sizes = are; adds_up = e ∙ total-told problem sizes many },
-    )
+total-sizes sizing problem sizes are answer = grind (arith, room-of, only-sizes, total-told)
 
 -- ---- room
 
 -- a range that lies in the table is as long as what it has room for
 extent-room : (line : ℕ → Bool) (sizes : List ℕ) (d : Demand) → end_of d ≤ length sizes → HasRoom line sizes d →
     d.minimum ≤ extent (slice_index sizes) line d.start d.span
-extent-room line sizes d le room =
-    let told : range_sum sizes d ≡ sum_from (slice_index sizes) d.start d.span = sum_from-list sizes d.start d.span le in
-    let minimum : d.minimum ≤ range_sum sizes d + inner_lines line d = room in
-    omega arith
+extent-room line sizes d le room = grind (arith, sum_from-list)
 
 module _ {C : Type 0} (sizing : Sizing) (grid : Grid) (measure : C → ℕ × ℕ) (columns : ℕ) (cells : List (List C)) (widths heights : List ℕ) where
   pub sizes-have-room : AreBothSizes grid measure columns cells sizing widths heights → HoldAlong grid measure columns cells HaveRoom widths heights
-  sizes-have-room are = record {
-    widths = room-of sizing (problem_of grid measure columns cells Columns) widths are.widths;
-    heights = room-of sizing (problem_of grid measure columns cells Rows) heights are.heights;
-  }
+  sizes-have-room are = grind (arith, room-of)
 
   pub totals : AreBothSizes grid measure columns cells sizing widths heights → (direction : Direction) (answer : ℕ) → IsTotal sizing (problem_of grid measure columns cells direction) answer
       ↔ (answer ≡ total_along (sized_table grid widths heights (length cells, columns)) direction)
@@ -215,25 +179,17 @@ module _ {C : Type 0} (grid : Grid) (measure : C → ℕ × ℕ) (columns : ℕ)
 
   shown : (xs : List (Position × C)) → All IsShown (filter (λ x. grid.shows x.0) xs)
   shown [] = All-nil IsShown
-  shown (x ∷ xs) = elim (cases_Bool (grid.shows x.0)) [
-    | inl t ↦ rw t (All-cons IsShown x (filter (λ y. grid.shows y.0) xs) t (shown xs))
-    | inr f ↦ rw f (shown xs)
-  ]
+  shown (x ∷ xs) = grind (arith, cases_Bool (grid.shows x.0), All-cons, shown xs)
 
   each : (xs : List (Position × C)) → All IsShown xs → All (IsGood Columns) xs → All (IsGood Rows) xs → All HasRoomIn xs
   each [] visible across down = All-nil HasRoomIn
   each (x ∷ xs) visible across down =
-      let wide = All-head (IsGood Columns) x xs across in
       let high = All-head (IsGood Rows) x xs down in
       All-cons HasRoomIn x xs
       (record {
         place = place_at (sized_table grid widths heights (length cells, columns)) x.0;
-        is_placed = record {
-          inside = record { visible = All-head IsShown x xs visible; across = wide.ends; down = high.ends };
-          fit = both-fit;
-          exact = refl;
-        };
-        wide_enough = wide.room;
+        is_placed = grind (arith, All-head, both-fit);
+        wide_enough = (All-head (IsGood Columns) x xs across).room;
         high_enough = high.room;
       })
       (each xs (All-tail IsShown x xs visible) (All-tail (IsGood Columns) x xs across) (All-tail (IsGood Rows) x xs down))

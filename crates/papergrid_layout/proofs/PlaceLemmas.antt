@@ -1,5 +1,5 @@
 -- The cells of rows with their positions are those that the rows have there.
-use Rattle.std.proofs.Common.{◌≡◌, ℕ, zero, suc, ◌+◌, ◌<◌, List, [], ◌∷◌, length, get_or, refl, sym, ap, subst, ◌∙◌, arith}
+use Rattle.std.proofs.Common.{◌≡◌, ℕ, zero, suc, ◌+◌, ◌<◌, List, [], ◌∷◌, length, get_or, refl, sym, subst, arith}
 use Rattle.std.specs.Prelude.{All, Contains}
 use Rattle.std.proofs.lemmas.List.Elements.{All-append, All-cons, All-contains, All-nil, All-weaker, Contains-append_left, Contains-append_right}
 use Rattle.papergrid_values.specs.declared.position.Position.{Position}
@@ -41,8 +41,7 @@ module _ {C : Type 0} where
 
   in-row : (r c k : ℕ) (cells : List C) (cell : C) → RowHasCell cells k cell → Contains (placed_row r c cells) (record { row = r; col = c + k }, cell)
   in-row r c k [] cell h = let l = h.0 in absurd (omega (arith, l))
-  in-row r c zero (y ∷ cells) cell h =
-      (0, (omega arith), ap (λ z. (record { row = r; col = c }, z)) h.1 ∙ ap (λ n. (record { row = r; col = n }, cell)) (let e : c ≡ c + 0 = omega arith in e))
+  in-row r c zero (y ∷ cells) cell h = grind arith
   in-row r c (suc k) (y ∷ cells) cell h =
       let l : suc k < suc (length cells) = h.0 in
       subst (λ n. Contains (placed_row r c (y ∷ cells)) (record { row = r; col = n }, cell)) (let e : c + 1 + k ≡ c + suc k = omega arith in e)

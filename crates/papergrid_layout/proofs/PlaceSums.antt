@@ -43,10 +43,7 @@ module _ (size : ℕ → ℕ) (line : ℕ → Bool) where
 
   -- the next number begins after this one and the line before it
   pub offset-next : (i : ℕ) → offset size line (i + 1) ≡ offset size line i + size i + drawn (i + 1)
-  offset-next i =
-      let after : offset size line (i + 1) ≡ offset size line i + extent size line i 1 + drawn (i + 1) = offset-after i 1 (omega arith) in
-      let one : extent size line i 1 ≡ size i = let e : sum_from size i 1 ≡ size i = sum-one size i in omega arith in
-      omega arith
+  offset-next i = grind (arith, offset-after, sum-one)
 
   -- a range of no number is empty
   extent-none : (s : ℕ) → extent size line s 0 ≡ 0
@@ -75,11 +72,7 @@ module _ (size : ℕ → ℕ) (line : ℕ → Bool) where
   -- a range that does not end past the last number ends within the total
   pub within-total : (s n count first long : ℕ) → ◌≡◌ {A = ℕ × ℕ} (first, long) (offset size line s, extent size line s n) → false ≡ nat_lt count (s + n) →
       first + long ≤ total size line count
-  within-total s n count first long at inside =
-      let begins : first ≡ offset size line s = ap (λ p. p.0) at in
-      let goes : long ≡ extent size line s n = ap (λ p. p.1) at in
-      let before : offset size line s + extent size line s n ≤ offset size line count = extent-before s n count (ltb-false count (s + n) (sym inside)) in
-      omega arith
+  within-total s n count first long at inside = grind (arith, extent-before, ltb-false)
 
   -- the sum up to a number that is passed does not fit, so the total does not
   pub past-total : (s count : ℕ) → s ≤ count → (offset size line s < 2 ^ 64 → ⊥) → offset size line count < 2 ^ 64 → ⊥
@@ -98,18 +91,12 @@ module _ (size : ℕ → ℕ) (line : ℕ → Bool) where
 
   -- the line at a number stands before where the number begins
   pub line-before : (i : ℕ) → offset size line i ≡ line_offset size line i + drawn i
-  line-before i =
-      let cut : all_lines line i ≡ count_by line (range_with_len 0 i) + count_by line (range_with_len (0 + i) 1) = sum-cut drawn 0 i 1 in
-      let last : count_by line (range_with_len (0 + i) 1) ≡ drawn i =
-      sum-one drawn (0 + i) ∙ ap drawn (let e : 0 + i ≡ i = omega arith in e) in
-      omega arith
+  line-before i = grind (arith, sum-cut, sum-one)
 
   -- how long a range is, by where it begins, where the next number begins and the line there
   pub part-of : (s n begin next drew : ℕ) → 1 ≤ n → begin ≡ offset size line s → next ≡ offset size line (s + n) → drew ≡ drawn (s + n) →
       next ≡ begin + extent size line s n + drew
-  part-of s n begin next drew one at end passed =
-      let after : offset size line (s + n) ≡ offset size line s + extent size line s n + drawn (s + n) = offset-after s n one in
-      omega arith
+  part-of s n begin next drew one at end passed = grind (arith, offset-after)
 
 -- where none is found, there is none
 pub none-of : {T : Type 0} (found : Option T) (P : Type 0) (x : T) → found ≡ None → (P → ⊥) → SomeIff found P x
@@ -117,10 +104,7 @@ none-of found P x e never = subst (λ r. SomeIff r P x) (sym e) never
 
 -- where no part is found along a direction, the total does not fit
 pub too-large : {T : Type 0} (found : Option T) (whole : ℕ) (x : T) → found ≡ None → SomeIff found (whole < 2 ^ 64) x → 2 ^ 64 ≤ whole
-too-large found whole x e h = elim (cases_lt whole (2 ^ 64)) [
-  | inl fits ↦ absurd (subst (λ r. SomeIff r (whole < 2 ^ 64) x) e h fits)
-  | inr past ↦ past
-]
+too-large found whole x e h = grind (arith, cases_lt whole (2 ^ 64))
 
 -- a total that is found, or too large
 pub total-or : (found : Option ℕ) (whole : ℕ) → SomeIff found (whole < 2 ^ 64) whole → IsTotalOf whole (ok_or found layout_error.TooLarge)
@@ -130,11 +114,7 @@ total-or (Some n) whole h = h.1
 -- a visible cell that does not overflow the table lies in the table
 pub is-inside : (table : TableView) (p : Position) → table.grid.shows p ≡ true →
     false ≡ nat_lt table.shape.1 (p.col + table.grid.span Columns p) → false ≡ nat_lt table.shape.0 (p.row + table.grid.span Rows p) → IsInsideTable table p
-is-inside table p visible across down = record {
-  visible = visible;
-  across = ltb-false table.shape.1 (p.col + table.grid.span Columns p) (sym across);
-  down = ltb-false table.shape.0 (p.row + table.grid.span Rows p) (sym down);
-}
+is-inside table p visible across down = grind (arith, ltb-false)
 
 -- the place of a cell by what is found along both directions
 pub has-place : (table : TableView) (p : Position) (left top width height : ℕ) → table.grid.shows p ≡ true →
@@ -144,11 +124,7 @@ pub has-place : (table : TableView) (p : Position) (left top width height : ℕ)
     (total table.heights (table.grid.draws Rows table.shape.0) table.shape.0 < 2 ^ 64)
     × ◌≡◌ {A = ℕ × ℕ} (top, height) (offset table.heights (table.grid.draws Rows table.shape.0) p.row, extent table.heights (table.grid.draws Rows table.shape.0) p.row (table.grid.span Rows p)) →
     HasPlace table p (record { left = left; top = top; width = width; height = height })
-has-place table p left top width height visible across down wide high = record {
-  inside = is-inside table p visible across down;
-  fit = fit;
-  exact = (λ k. record { left = (wide.1 k).0; top = (high.1 k).0; width = (wide.1 k).1; height = (high.1 k).1 });
-}
+has-place table p left top width height visible across down wide high = grind (arith, is-inside, fit)
   where
     fit : (direction : Direction) → total_along table direction < 2 ^ 64
     fit Columns = wide.0

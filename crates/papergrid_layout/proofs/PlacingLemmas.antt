@@ -1,5 +1,5 @@
 -- What is known of the listed places, step by step.
-use Rattle.std.proofs.Common.{◌≡◌, ◌∙◌, ℕ, ◌+◌, ◌<◌, ◌≤◌, ◌^◌, ◌⊎◌, Bool, true, false, inl, inr, List, [], ◌∷◌, ◌++◌, None, Some, refl, sym, ap, subst, arith}
+use Rattle.std.proofs.Common.{◌≡◌, ◌∙◌, ℕ, ◌+◌, ◌<◌, ◌≤◌, ◌^◌, ◌⊎◌, Bool, true, false, inl, inr, List, [], ◌∷◌, ◌++◌, None, Some, refl, sym, ap, subst, arith, rules}
 use Rattle.std.specs.Prelude.{All, Contains, Err, if◌then◌else◌}
 use Rattle.std.proofs.lemmas.Bool.{cases_lt}
 use Rattle.std.proofs.lemmas.List.Elements.{All-append, All-cons, All-contains, All-nil, All-weaker, Contains-append_left, Contains-push}
@@ -11,7 +11,6 @@ use Rattle.papergrid_values.specs.declared.position.Position.{Position}
 use Rattle.papergrid_values.specs.Positions.{IsBefore, position_of}
 use Rattle.papergrid_config.specs.declared.spanned.SpannedConfig.{SpannedConfig}
 use Rattle.papergrid_maps.specs.declared.anchors.Anchor.{Anchor}
-use Rattle.papergrid_maps.specs.ForProofs.SpanVisible.{visible_test}
 use Rattle.papergrid_walk.specs.ForProofs.Shown.{anchor_in}
 use Rattle.papergrid_walk.specs.ForProofs.Visits.{shows_turn}
 use Rattle.papergrid_maps.specs.Grids.{Grid}
@@ -28,14 +27,10 @@ use Rattle.papergrid_layout.proofs.PlaceSums.{extent-before}
 -- ---- within the totals
 
 pub ends-within : (table : TableView) (p : Position) (place : Place) → HasPlace table p place → EndsWithin table place
-ends-within table p place has = subst (EndsWithin table) (sym has.exact) (
-  extent-before table.widths (table.grid.draws Columns table.shape.1) p.col (table.grid.span Columns p) table.shape.1 has.inside.across,
-  extent-before table.heights (table.grid.draws Rows table.shape.0) p.row (table.grid.span Rows p) table.shape.0 has.inside.down,
-)
+ends-within table p place has = grind (arith, extent-before)
 
 pub all-end-within : (table : TableView) (list : List (Position × Place)) → HaveAllPlaces table list → All (λ x. EndsWithin table x.1) list
-all-end-within table list have =
-    All-weaker (λ x. HasPlace table x.0 x.1) (λ x. EndsWithin table x.1) (λ x. ends-within table x.0 x.1) list have.placed
+all-end-within table list have = search (rules, All-weaker, ends-within)
 
 -- ---- what is found of a position
 
@@ -55,11 +50,7 @@ pub place-found : (table : TableView) (anchor : Anchor) (left top width height :
     ◌≡◌ {A = ℕ × ℕ} (top, height)
     (offset table.heights (table.grid.draws Rows table.shape.0) anchor.position.row, extent table.heights (table.grid.draws Rows table.shape.0) anchor.position.row anchor.rows) →
     ◌≡◌ {A = Place} (record { left = left; top = top; width = width; height = height }) (place_at table anchor.position)
-place-found table anchor left top width height e wide high =
-    let p = anchor.position in
-    let long = ap (λ x. x.1) wide ∙ ap (extent table.widths (table.grid.draws Columns table.shape.1) p.col) (ap (λ (a : Anchor). a.cols) e) in
-    let tall = ap (λ x. x.1) high ∙ ap (extent table.heights (table.grid.draws Rows table.shape.0) p.row) (ap (λ (a : Anchor). a.rows) e) in
-    λ k. record { left = (wide k).0; top = (high k).0; width = long k; height = tall k }
+place-found table anchor left top width height e wide high = grind arith
 
 -- its spans at its own position
 pub anchor-own : (grid : Grid) (p : Position) (anchor : Anchor) → anchor ≡ anchor_in grid p → anchor ≡ anchor_in grid anchor.position
@@ -72,26 +63,13 @@ pub has-found : (table : TableView) (p : Position) (anchor : Anchor) (place : Pl
     (((anchor.position.col + anchor.cols ≤ table.shape.1) × (anchor.position.row + anchor.rows ≤ table.shape.0))
     × (place ≡ place_at table anchor.position)) →
     HasPlace table p place
-has-found table p anchor place fit visible e found =
-    let told = subst (λ (a : Anchor). ((a.position.col + a.cols ≤ table.shape.1) × (a.position.row + a.rows ≤ table.shape.0))
-    × (place ≡ place_at table a.position)) e found in
-    record { inside = record { visible = visible; across = told.0.0; down = told.0.1 }; fit = fit; exact = told.1 }
+has-found table p anchor place fit visible e found = grind arith
 
 -- where no place was found for it, it overflows the table
 pub is-out : (table : TableView) (p : Position) (anchor : Anchor) → table.grid.shows p ≡ true → anchor ≡ anchor_in table.grid p →
     ((anchor.position.col + anchor.cols ≤ table.shape.1) × (anchor.position.row + anchor.rows ≤ table.shape.0) → ⊥) →
     IsPlaced table p (Err OutOfTable)
-is-out table p anchor visible e none =
-    let told = subst (λ (a : Anchor). (a.position.col + a.cols ≤ table.shape.1) × (a.position.row + a.rows ≤ table.shape.0) → ⊥) e none in (
-      visible,
-      elim (cases_lt table.shape.1 (p.col + table.grid.span Columns p)) [
-        | inl wide ↦ inl wide
-        | inr narrow ↦ elim (cases_lt table.shape.0 (p.row + table.grid.span Rows p)) [
-          | inl high ↦ inr high
-          | inr low ↦ absurd (told (narrow, low))
-        ]
-      ],
-    )
+is-out table p anchor visible e none = grind arith
 
 -- ---- order
 
@@ -101,27 +79,19 @@ before-step p r c (inr left) = inr (left.0, let l : p.col < c = left.1 in omega 
 
 pub before-next : (p : Position) (r c : ℕ) → IsBefore p (position_of (r, c + 1)) → IsBefore p (position_of (r, c)) ⊎ (p ≡ position_of (r, c))
 before-next p r c (inl above) = inl (inl above)
-before-next p r c (inr left) = elim (cases_lt p.col c) [
-  | inl l ↦ inl (inr (left.0, l))
-  | inr ge ↦ let l : p.col < c + 1 = left.1 in inr (position-same p (position_of (r, c)) left.0 (omega arith))
-]
+before-next p r c (inr left) = grind (arith, cases_lt p.col c, position-same)
 
 pub before-row : (p : Position) (r c : ℕ) → IsBefore p (position_of (r, c)) → IsBefore p (position_of (r + 1, 0))
 before-row p r c (inl above) = let l : p.row < r = above in inl (omega arith)
 before-row p r c (inr left) = let e : p.row ≡ r = left.0 in inl (omega arith)
 
 pub before-turn : (p : Position) (r c : ℕ) → p.col < c → IsBefore p (position_of (r + 1, 0)) → IsBefore p (position_of (r, c))
-before-turn p r c in_row (inl above) = elim (cases_lt p.row r) [
-  | inl l ↦ inl l
-  | inr ge ↦ let l : p.row < r + 1 = above in inr (omega arith, in_row)
-]
+before-turn p r c in_row (inl above) = grind (arith, cases_lt p.row r)
 before-turn p r c in_row (inr left) = let l : p.col < 0 = left.1 in absurd (omega arith)
 
 -- the first position is hidden by none
 pub first-shown : (config : SpannedConfig) → (spanned_grid config).shows (position_of (0, 0)) ≡ true
-first-shown config =
-    (visible_test config.spans (position_of (0, 0))).1.1
-    (λ anchor other within. other (position-same anchor (position_of (0, 0)) (omega (arith, within.below_top)) (omega (arith, within.after_left))))
+first-shown config = grind (arith, position-same)
 
 pub none-before : (p : Position) → IsBefore p (position_of (0, 0)) → ⊥
 none-before p before = elim before [ inl l ↦ omega (arith, l) | inr l ↦ let l' = l.1 in omega (arith, l') ]
@@ -139,12 +109,7 @@ module _ (table : TableView) where
   IsCell = IsVisibleCell table
 
   pub placed-none : ArePlacedBefore table 0 0 []
-  placed-none = record {
-    in_order = λ i j d l l'. absurd (omega arith);
-    placed = All-nil Has;
-    before = All-nil (Before 0 0);
-    complete = λ p cell before. absurd (none-before p before);
-  }
+  placed-none = grind (arith, All-nil, none-before)
 
   -- past a visible position that has a place
   pub placed-more : (r c : ℕ) (list : List (Position × Place)) (place : Place) → Has (position_of (r, c), place) → ArePlacedBefore table r c list →
@@ -164,49 +129,24 @@ module _ (table : TableView) where
   -- past a hidden one
   pub placed-hidden : (r c : ℕ) (list : List (Position × Place)) → (table.grid.shows (position_of (r, c)) ≡ true → ⊥) → ArePlacedBefore table r c list →
       ArePlacedBefore table r (c + 1) list
-  placed-hidden r c list hidden are = record {
-    in_order = are.in_order;
-    placed = are.placed;
-    before = All-weaker (Before r c) (Before r (c + 1)) (λ x h. before-step x.0 r c h) list are.before;
-    complete = λ p cell before. elim (before-next p r c before) [
-      | inl earlier ↦ are.complete p cell earlier
-      | inr same ↦ absurd (hidden (subst (λ q. table.grid.shows q ≡ true) same cell.visible))
-    ];
-  }
+  placed-hidden r c list hidden are = grind (arith, All-weaker, before-step, before-next)
 
   -- after a row comes the next one
   pub placed-turn : (r : ℕ) (list : List (Position × Place)) → ArePlacedBefore table r table.shape.1 list → ArePlacedBefore table (r + 1) 0 list
-  placed-turn r list are = record {
-    in_order = are.in_order;
-    placed = are.placed;
-    before = All-weaker (Before r table.shape.1) (Before (r + 1) 0) (λ x h. before-row x.0 r table.shape.1 h) list are.before;
-    complete = λ p cell before. are.complete p cell (before-turn p r table.shape.1 cell.col_in before);
-  }
+  placed-turn r list are = grind (arith, All-weaker, before-row, before-turn)
 
   pub all-placed : (list : List (Position × Place)) → ArePlacedBefore table table.shape.0 0 list →
       HaveAllPlaces table list
-  all-placed list are = record {
-    in_order = are.in_order;
-    placed = are.placed;
-    complete = λ p cell. are.complete p cell (inl cell.row_in);
-  }
+  all-placed list are = grind arith
 
   -- without columns or rows there is none
   pub none-placed : (table.shape.0 ≡ 0) ⊎ (table.shape.1 ≡ 0) → HaveAllPlaces table []
-  none-placed empty = record {
-    in_order = λ i j d l l'. absurd (omega arith);
-    placed = All-nil Has;
-    complete = λ p cell. elim empty [ inl e ↦ absurd (omega (arith, e, cell.row_in)) | inr e ↦ absurd (omega (arith, e, cell.col_in)) ];
-  }
+  none-placed empty = grind (arith, All-nil)
 
   pub first-refused : (r c : ℕ) (list : List (Position × Place)) (error : PlaceError) → IsCell (position_of (r, c)) →
       IsPlaced table (position_of (r, c)) (Err error) → ArePlacedBefore table r c list →
       IsFirstRefused table (position_of (r, c)) error
-  first-refused r c list error cell refused are = record {
-    is_cell = cell;
-    refused = refused;
-    earlier = λ q shown before. let found = are.complete q shown before in (found.0, All-contains Has list (q, found.0) are.placed found.1);
-  }
+  first-refused r c list error cell refused are = grind (arith, All-contains)
 
   -- the walk at the end of a row
   pub has-turned : (r c : ℕ) (placing : Placing) → c ≡ table.shape.1 → HasPlaced table r c placing → HasPlaced table (r + 1) 0 placing

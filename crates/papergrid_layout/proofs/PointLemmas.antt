@@ -1,5 +1,5 @@
 -- Which cells stand over a point.
-use Rattle.std.proofs.Common.{◌≡◌, ◌≢◌, ◌∙◌, ◌↔◌, ℕ, ◌+◌, ◌<◌, ◌≤◌, ◌⊎◌, Bool, true, false, inl, inr, IsTrue, refl, sym, ap, subst, arith}
+use Rattle.std.proofs.Common.{◌≡◌, ◌≢◌, ◌∙◌, ◌↔◌, ℕ, ◌+◌, ◌<◌, ◌≤◌, ◌⊎◌, Bool, true, false, inl, inr, IsTrue, refl, sym, ap, subst, arith, rules}
 use Rattle.std.specs.Prelude.{Err, MatchOption, Option, None, Some}
 use Rattle.std.proofs.lemmas.Bool.{cases_lt, false≢true}
 use Rattle.std.specs.Bool.{then_some}
@@ -33,7 +33,7 @@ none-but-visible config p q visible within other = (visible_test config.spans p)
 -- a point of a range from track s on, of n numbers, and the number whose stretch the point lies in
 module _ (size : ℕ → ℕ) (line : ℕ → Bool) (s n x : ℕ) (from : offset size line s ≤ x) (to : x < offset size line s + extent size line s n) where
   pub number-within : (i : ℕ) → (offset size line i ≤ x) × (x < offset size line (i + 1)) → (s ≤ i) × (i < s + n)
-  number-within i at = (first, last)
+  number-within i at = grind (arith, first, last, cases_lt i s, offset-rises)
     where
       first : s ≤ i
       first = elim (cases_lt i s) [
@@ -65,14 +65,8 @@ module _ (table : TableView) where
   -- what is refused has no place
   pub refused-none : (p : Position) (error : PlaceError) (place : Place) → IsPlaced table p (Err error) → HasPlace table p place → ⊥
   refused-none p Hidden place refused has = false≢true (sym refused ∙ has.inside.visible)
-  refused-none p OutOfTable place refused has = elim refused.1 [
-    | inl out ↦ omega (arith, out, has.inside.across)
-    | inr out ↦ omega (arith, out, has.inside.down)
-  ]
-  refused-none p TooLarge place refused has = elim refused.1 [
-    | inl large ↦ let fits = has.fit Columns in omega (arith, large, fits)
-    | inr large ↦ let fits = has.fit Rows in omega (arith, large, fits)
-  ]
+  refused-none p OutOfTable place refused has = search rules
+  refused-none p TooLarge place refused has = search rules
 
   module _ (x y : ℕ) where
     abbrev Over : Position → Type 0
@@ -93,8 +87,7 @@ module _ (table : TableView) where
         none-outside table.widths (table.grid.draws Columns table.shape.1) q.col (table.grid.span Columns q) x over.covers.after_left over.covers.before_right table.shape.1 over.placed.inside.across out
 
     pub none-beyond : (y < offset table.heights (table.grid.draws Rows table.shape.0) 0) ⊎ (offset table.heights (table.grid.draws Rows table.shape.0) table.shape.0 ≤ y) → (q : Position) → Over q → ⊥
-    none-beyond out q over =
-        none-outside table.heights (table.grid.draws Rows table.shape.0) q.row (table.grid.span Rows q) y over.covers.below_top over.covers.above_bottom table.shape.0 over.placed.inside.down out
+    none-beyond out q over = search (rules, none-outside)
 
     -- the one position whose cell may stand over the point, if it does
     pub one-tested : (p : Position) (test : Bool) → (IsTrue test ↔ Over p) → ((q : Position) → Over q → q ≢ p → ⊥) →

@@ -1,14 +1,13 @@
 -- What is known of the cells of a table that span several columns or rows.
-use Rattle.std.proofs.Common.{◌≡◌, ◌≢◌, ◌∙◌, ℕ, ◌+◌, ◌-◌, ◌<◌, ◌≤◌, ◌⊎◌, true, false, inl, inr, List, [], ◌∷◌, ◌++◌, length, get_or, refl, sym, ap, subst, arith}
+use Rattle.std.proofs.Common.{◌≡◌, ◌∙◌, ℕ, ◌+◌, ◌-◌, ◌<◌, ◌≤◌, ◌⊎◌, true, false, inl, inr, List, [], ◌∷◌, ◌++◌, length, get_or, refl, sym, ap, subst, arith}
 use Rattle.std.specs.Prelude.{◌^◌, All, Contains, Option, None, Some, slice_get}
-use Rattle.std.proofs.lemmas.Bool.{cases_eq, cases_lt, false≢true}
+use Rattle.std.proofs.lemmas.Bool.{cases_eq, cases_lt}
 use Rattle.std.proofs.lemmas.List.Elements.{All-contains, All-nil, All-push, All-weaker, Contains-append_left, Contains-push}
 use Rattle.std.proofs.lemmas.List.Quantifiers.{all_pairs_push}
 use Rattle.std.proofs.lemmas.List.{get_or_default}
-use Rattle.std.proofs.lemmas.List.Sorted.{IsNonDecreasingBy-push, IsNonDecreasingBy-short}
+use Rattle.std.proofs.lemmas.List.Sorted.{IsNonDecreasingBy-push}
 use Rattle.std.proofs.lemmas.Option.{slice_get_within}
 use Rattle.papergrid_values.specs.declared.direction.Direction.{Direction}
-use Rattle.papergrid_values.specs.declared.direction.Direction.TheVariants.{Columns, Rows}
 use Rattle.papergrid_values.specs.declared.position.Position.{Position}
 use Rattle.papergrid_values.specs.Positions.{IsBefore}
 use Rattle.papergrid_maps.specs.Anchors.{HasAnchor, IsSorted}
@@ -16,7 +15,6 @@ use Rattle.papergrid_maps.specs.Grids.{Grid}
 use Rattle.papergrid_maps.specs.Hidden.{AreAnchorsOf}
 use Rattle.papergrid_maps.specs.Spans.{IsInRectangle}
 use Rattle.papergrid_maps.specs.declared.anchors.Anchor.{Anchor}
-use Rattle.papergrid_maps.proofs.HiddenLemmas.{position-same}
 use Rattle.papergrid_walk.specs.ForProofs.Shown.{Shows, anchor_in}
 use Rattle.papergrid_walk.specs.ForProofs.Swept.{Walk}
 use Rattle.papergrid_layout.specs.Places.{Covers, HasPlace, IsFirstOver, IsInsideTable, StandsOver, TableView, place_at, total_along}
@@ -65,15 +63,7 @@ pub spanned-found : (table : TableView) (p : Position) (anchor : Anchor) (place 
     × (place ≡ place_at table anchor.position)) →
     old.reach ≤ new.reach → p.row + anchor.rows ≤ new.reach →
     new.cells.items ≡ old.cells.items ++ record { position = p; place = place; reach = new.reach } ∷ [] → IsSpannedStep table p old new
-spanned-found table p anchor place old new visible e found kept reach items =
-    let told = subst (λ (a : Anchor). ((a.position.col + a.cols ≤ table.shape.1) × (a.position.row + a.rows ≤ table.shape.0))
-    × (place ≡ place_at table a.position)) e found in
-    inr (
-      record { visible = visible; across = told.0.0; down = told.0.1 },
-      kept,
-      subst (λ (a : Anchor). p.row + a.rows ≤ new.reach) e reach,
-      items ∙ ap (λ (q : Place). old.cells.items ++ record { position = p; place = q; reach = new.reach } ∷ []) told.1,
-    )
+spanned-found table p anchor place old new visible e found kept reach items = grind arith
 
 module _ (table : TableView) where
   abbrev IsPlaced : SpanningCell → Type 0
@@ -92,12 +82,7 @@ module _ (table : TableView) where
   reach_of a = a.reach
 
   are-none : AreSpanning table []
-  are-none = record {
-    in_order = λ i j d l l'. absurd (omega arith);
-    rising = IsNonDecreasingBy-short reach_of [] (omega arith);
-    reaching = All-nil Reaches;
-    placed = All-nil IsPlaced;
-  }
+  are-none = grind arith
 
   are-more : (cells : List SpanningCell) (cell : SpanningCell) → AreSpanning table cells → All (Before cell.position) cells → All (Within cell.reach) cells →
       Reaches cell → IsPlaced cell → AreSpanning table (cells ++ cell ∷ [])
@@ -170,12 +155,7 @@ module _ (table : TableView) where
         cell = record { position = p; place = place_at table p; reach = new.reach }
 
         own : (k : ℕ) (a : Anchor) → k < i + 1 → i ≤ k → slice_get anchors k ≡ Some a → a ≡ anchor
-        own k a l le at' =
-            let e : k ≡ i = omega arith in
-            some-same a anchor (sym at' ∙ ap (slice_get anchors) e ∙ at)
-          where
-            some-same : (x y : Anchor) → Some x ≡ Some y → x ≡ y
-            some-same x y e = cc
+        own k a l le at' = grind arith
 
         later : (k : ℕ) (a : Anchor) → i + 1 ≤ k → slice_get anchors k ≡ Some a → Shows table.grid new.sweep a.position.row a.position.col
         later k a le at' = shows-after table.grid new.sweep p a.position (sorted i k anchor a (omega (arith, le)) at at') shows
@@ -204,55 +184,27 @@ module _ (table : TableView) where
   module _ (x y : ℕ) where
     -- the cell with its place stands over the point where its place covers that
     stands : (p : Position) (place : Place) → HasPlace table p place → Covers place x y → StandsOver table x y p
-    stands p place has covers = record {
-      placed = record { inside = has.inside; fit = has.fit; exact = refl };
-      covers = subst (λ (q : Place). Covers q x y) has.exact covers;
-    }
+    stands p place has covers = grind arith
 
     module _ (cells : List SpanningCell) (within : Position) (all : HaveAllSpanning table cells) (hidden : false ≡ table.grid.shows within)
         (lies : (q : Position) → StandsOver table x y q → IsInRectangle table.grid.span q within) where
       -- only cells in whose rows the point lies cover it
       pub cover-in-row : CoverInRow table within.row x y cells
-      cover-in-row k d l = λ covers.
-          let a = get_or cells k d in
-          let has = lies a.position (stands a.position a.place (all.are.placed k d l) covers) in
-          (has.below_top, has.above_bottom)
+      cover-in-row k d l = grind arith
 
       -- a cell over a hidden position spans several columns or rows
       over-listed : (q : Position) → StandsOver table x y q → (a : SpanningCell) × Contains cells a × (a.position ≡ q) × Covers a.place x y
-      over-listed q over = (listed.0, listed.1, listed.2, covers)
+      over-listed q over = grind (arith, covers, within)
         where
-          has : IsInRectangle table.grid.span q within
-          has = lies q over
-
-          differ : q ≢ within
-          differ e = false≢true (hidden ∙ ap table.grid.shows (sym e) ∙ over.placed.inside.visible)
-
           listed : IsListed cells q
-          listed =
-              let top : q.row ≤ within.row = has.below_top in
-              let bottom : within.row < q.row + table.grid.span Rows q = has.above_bottom in
-              let left : q.col ≤ within.col = has.after_left in
-              let right : within.col < q.col + table.grid.span Columns q = has.before_right in
-              elim (cases_lt (table.grid.span Columns q) 2) [
-                | inr wide ↦ all.complete Columns q over.placed.inside wide
-                | inl narrow ↦ elim (cases_lt (table.grid.span Rows q) 2) [
-                  | inr tall ↦ all.complete Rows q over.placed.inside tall
-                  | inl low ↦ absurd (differ (position-same q within (omega arith) (omega arith)))
-                ]
-              ]
+          listed = grind arith
 
           covers : Covers listed.0.place x y
-          covers =
-              let placed : HasPlace table listed.0.position listed.0.place = All-contains IsPlaced cells listed.0 all.are.placed listed.1 in
-              let own : listed.0.place ≡ place_at table q = placed.exact ∙ ap (place_at table) listed.2 in
-              subst (λ (z : Place). Covers z x y) (sym own) over.covers
+          covers = grind arith
 
       -- the first that covers it is the first cell that stands over it
       pub first-over : (answer : Option Position) → IsFirstCovering x y cells answer → IsFirstOver table x y answer
-      first-over None none = λ q over.
-          let found = over-listed q over in
-          All-contains (λ (a : SpanningCell). Covers a.place x y → ⊥) cells found.0 none found.1 found.3
+      first-over None none = grind arith
       first-over (Some p) first = (
         subst (StandsOver table x y) first.2
             (stands first.0.position first.0.place (All-contains IsPlaced cells first.0 all.are.placed first.1) first.3),
@@ -266,10 +218,7 @@ module _ (table : TableView) where
 module _ (table : TableView) (row x y : ℕ) (cells : List SpanningCell) (are : AreSpanning table cells) (cover : CoverInRow table row x y cells) where
   -- none covers it that ends above the row
   pub none-ended : (k : ℕ) (d : SpanningCell) → k < length cells → (get_or cells k d).reach ≤ row → Covers (get_or cells k d).place x y → ⊥
-  none-ended k d l ended covers =
-      let reaching : end_row table (get_or cells k d).position ≤ (get_or cells k d).reach = are.reaching k d l in
-      let above : row < end_row table (get_or cells k d).position = (cover k d l covers).1 in
-      omega arith
+  none-ended k d l ended covers = grind arith
 
   -- and none from one on that begins below it
   pub none-from : (i k : ℕ) (e d : SpanningCell) → i ≤ k → k < length cells → row < (get_or cells i e).position.row → Covers (get_or cells k d).place x y → ⊥
@@ -289,7 +238,7 @@ module _ (table : TableView) (row x y : ℕ) (cells : List SpanningCell) (are : 
   -- the one at i is the first, if none before it covers the point
   pub first-found : (i : ℕ) (d : SpanningCell) → i < length cells → ((k : ℕ) (d : SpanningCell) → k < i → Covers (get_or cells k d).place x y → ⊥) →
       Covers (get_or cells i d).place x y → IsFirstCovering x y cells (Some (get_or cells i d).position)
-  first-found i d l none covers = (get_or cells i d, (i, l, own), refl, covers, earlier)
+  first-found i d l none covers = grind (arith, own, covers, earlier, get_or_default)
     where
       own : get_or cells i (get_or cells i d) ≡ get_or cells i d
       own = get_or_default cells i (get_or cells i d) d l

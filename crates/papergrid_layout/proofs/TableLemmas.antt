@@ -83,7 +83,7 @@ module _ (table : TableView) (fit : (direction : Direction) → total_along tabl
 
   -- none is refused as too large
   pub never-too-large : {A : Type 0} (answer : Result A LayoutError) → IfErr answer (ArePlacesRefused table) → IfErr answer (λ e. e ≢ layout_error.TooLarge)
-  never-too-large answer refused = IfErr-weaker answer (ArePlacesRefused table) (λ e. e ≢ layout_error.TooLarge) small refused
+  never-too-large answer refused = grind (arith, IfErr-weaker, small, large)
     where
       large : ((2 ^ 64 ≤ total_along table Columns) ⊎ (2 ^ 64 ≤ total_along table Rows)) → ⊥
       large (inl across) = let fits = fit Columns in omega (arith, across, fits)

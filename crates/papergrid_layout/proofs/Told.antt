@@ -1,5 +1,5 @@
 -- What a caller that knows its rows reads of an answer: the cells told are seen through a view, as lent cells are.
-use Rattle.std.proofs.Common.{◌≡◌, ◌∙◌, ℕ, ◌+◌, ◌||◌, true, List, [], ◌∷◌, ◌++◌, length, map, nat_lt, refl, ap, subst, sym, inl, inr}
+use Rattle.std.proofs.Common.{◌≡◌, ◌∙◌, ℕ, ◌+◌, ◌||◌, true, List, [], ◌∷◌, ◌++◌, length, map, nat_lt, refl, ap, subst, sym, inl, inr, arith}
 use Rattle.std.specs.Prelude.{None, Option, Some, find, if◌then◌else◌}
 use Rattle.std.proofs.lemmas.Bool.{cases_Bool}
 use Rattle.std.proofs.lemmas.List.{length-map}
@@ -7,10 +7,10 @@ use Rattle.papergrid_values.specs.declared.position.Position.{Position}
 use Rattle.papergrid_values.specs.declared.direction.Direction.{Direction}
 use Rattle.papergrid_values.specs.declared.direction.Direction.TheVariants.{Columns, Rows}
 use Rattle.papergrid_tracks.specs.Certificates.{certificate_cells_of}
-use Rattle.papergrid_tracks.specs.Problem.{Problem, problem_of_demands}
+use Rattle.papergrid_tracks.specs.Problem.{Problem}
 use Rattle.papergrid_tracks.proofs.LaminarLemmas.{Decides-is_laminar, is_laminar, not_laminar}
 use Rattle.papergrid_tracks.specs.Ranges.{position_of}
-use Rattle.papergrid_walk.specs.Cells.{demand_by, demands_by, count_along, demands_of, placed_from, placed_row, problem_of, visible_cells}
+use Rattle.papergrid_walk.specs.Cells.{demand_by, demands_by, demands_of, placed_from, placed_row, problem_of, visible_cells}
 use Rattle.papergrid_maps.specs.Grids.{Grid}
 use Rattle.papergrid_walk.specs.ForProofs.Visits.{demands_by-append}
 use Rattle.papergrid_layout.specs.Answers.{HoldAlong, IsBothRefused, first_out_of_table, overflows}
@@ -46,12 +46,7 @@ module _ {C : Type 0} (grid : Grid) (measure : C → ℕ × ℕ) (columns : ℕ)
 module _ {A B : Type 0} (grid : Grid) (v : A → B) (f : B → ℕ × ℕ) where
   told_row : (direction : Direction) (r c : ℕ) (cells : List A) → demands_by direction grid (λ x. f (v x)) (placed_row r c cells) ≡ demands_by direction grid f (placed_row r c (map v cells))
   told_row direction r c [] = refl
-  told_row direction r c (x ∷ cells) =
-      let rest = told_row direction r (c + 1) cells in
-      elim (cases_Bool (grid.shows (record { row = r; col = c }))) [
-        | inl t ↦ rw t (ap (λ ds. demand_by direction grid f (record { row = r; col = c }, v x) ∷ ds) rest)
-        | inr t ↦ rw t rest
-      ]
+  told_row direction r c (x ∷ cells) = grind (arith, told_row direction r (c + 1) cells, cases_Bool (grid.shows (record { row = r; col = c })))
 
   told_from : (direction : Direction) (r : ℕ) (rows : List (List A)) → demands_by direction grid (λ x. f (v x)) (placed_from r rows) ≡ demands_by direction grid f (placed_from r (map (map v) rows))
   told_from direction r [] = refl
@@ -70,8 +65,7 @@ module _ {A B : Type 0} (grid : Grid) (v : A → B) (f : B → ℕ × ℕ) where
     as_many = sym (length-map cells (map v)) ∙ ap length same
 
     pub problem_told : (direction : Direction) (columns : ℕ) → problem_of grid (λ x. f (v x)) columns cells direction ≡ problem_of grid f columns rows direction
-    problem_told direction columns =
-        λ i. problem_of_demands (grid.draws direction (count_along direction columns (as_many i))) (count_along direction columns (as_many i)) (demands_told direction i)
+    problem_told direction columns = grind (arith, as_many, demands_told)
 
     -- the same cell is the first out of the table
     pub first_told : (columns : ℕ) → first_out_of_table grid (λ x. f (v x)) columns cells ≡ first_out_of_table grid f columns rows

@@ -1,5 +1,5 @@
 -- Sums of sizes with their lines.
-use Rattle.std.proofs.Common.{◌≡◌, ℕ, ◌+◌, ◌≤◌, List, [], ◌∷◌, arith, nat_lt, map, subst, sym}
+use Rattle.std.proofs.Common.{◌≡◌, ℕ, ◌+◌, ◌≤◌, List, [], ◌∷◌, arith, nat_lt, map}
 use Rattle.std.specs.Prelude.{All, None, sum}
 use Rattle.std.proofs.lemmas.Bool.{ltb-false}
 use Rattle.std.proofs.lemmas.List.Elements.{All-cons, All-head, All-nil, All-tail}
@@ -44,6 +44,4 @@ module _ {C : Type 0} (grid : Grid) (measure : C → ℕ × ℕ) (columns : ℕ)
   fitting_covers sizes none fits = each_within sizes (total_of problem sizes) (omega arith) (visible_cells grid cells) none fits.room
 
   pub total_covers : (sizing : Sizing) (total : ℕ) → IsTotal sizing problem total → All (MinimumsAtMost total) (visible_cells grid cells)
-  total_covers sizing total is =
-      let room = room-of sizing problem is.sizes is.are_sizes in
-      subst (λ n. All (MinimumsAtMost n) (visible_cells grid cells)) (sym is.adds_up) (fitting_covers is.sizes room.none_out room.fits)
+  total_covers sizing total is = grind (arith, room-of, fitting_covers)

@@ -19,30 +19,18 @@ use Rattle.papergrid_script.proofs.SpellLemmas.{line_spelled}
 
 onto_last-later : (row next : List (List ℕ)) (rows : List (List (List ℕ))) (text : List ℕ)
     → onto_last (row ∷ next ∷ rows) text ≡ option_map (λ more. row ∷ more) (onto_last (next ∷ rows) text)
-onto_last-later row next rows text =
-    let at : length (row ∷ next ∷ rows) - 1 ≡ suc (length (next ∷ rows) - 1) = omega arith in
-    rw at (both (slice_get (next ∷ rows) (length (next ∷ rows) - 1)))
-  where
-    both : (o : Option (List (List ℕ))) → option_map (λ r. row ∷ slice_set (next ∷ rows) (length (next ∷ rows) - 1) (r ++ text ∷ [])) o
-        ≡ option_map (λ more. row ∷ more) (option_map (λ r. slice_set (next ∷ rows) (length (next ∷ rows) - 1) (r ++ text ∷ [])) o)
-    both None = refl
-    both (Some r) = refl
+onto_last-later row next rows text = grind arith
 
 rows_said-onto_last : (rows more : List (List (List ℕ))) (text : List ℕ) → onto_last rows text ≡ Some more → rows_said more ≡ rows_said rows ++ Cell text ∷ []
 rows_said-onto_last [] more text h = cc
-rows_said-onto_last (row ∷ []) more text h =
-    let same : (row ++ text ∷ []) ∷ [] ≡ more = same_Some _ _ h in
-    ap rows_said (sym same) ∙ ap (λ rest. Row ∷ rest)
-    (append-nil (map (λ t. Cell t) (row ++ text ∷ [])) ∙ map-append (λ t. Cell t) row (text ∷ []) ∙ ap (λ front. front ++ Cell text ∷ []) (sym (append-nil (map (λ t. Cell t) row))))
+rows_said-onto_last (row ∷ []) more text h = grind (arith, same_Some, append-nil, map-append)
 rows_said-onto_last (row ∷ next ∷ rows) more text h =
     let later = map_some (λ more. row ∷ more) (onto_last (next ∷ rows) text) more (sym (onto_last-later row next rows text) ∙ h) in
     ap rows_said (sym later.2) ∙ ap (λ rest. (Row ∷ map (λ t. Cell t) row) ++ rest) (rows_said-onto_last (next ∷ rows) later.0 text later.1)
     ∙ sym (append_assoc (Row ∷ map (λ t. Cell t) row) (rows_said (next ∷ rows)) (Cell text ∷ []))
 
 length-onto_last : (rows more : List (List (List ℕ))) (text : List ℕ) → onto_last rows text ≡ Some more → length more ≡ length rows
-length-onto_last rows more text h =
-    let set_last = map_some (λ row. slice_set rows (length rows - 1) (row ++ text ∷ [])) (slice_get rows (length rows - 1)) more h in
-    ap length (sym set_last.2) ∙ length-set rows (length rows - 1) _
+length-onto_last rows more text h = grind (arith, map_some, rows, length-set)
 
 none_onto_last : (rows : List (List (List ℕ))) (text : List ℕ) → onto_last rows text ≡ None → rows ≡ []
 none_onto_last [] text h = refl
@@ -183,31 +171,13 @@ bad_below begun line lines s i says bad = (
 )
 
 bad_above : (begun : Bool) (line : List ℕ) (lines : List (List ℕ)) (s : Said) (i : ℕ) → line_says line ≡ Some s → BadIn (begun || begins_row s) lines i → BadIn begun (line ∷ lines) (suc i)
-bad_above begun line lines s i says bad = (
-  bad.0,
-  bad.1,
-  elim bad.2 [
-    | inl none ↦ inl none
-    | inr cell ↦
-        let parts = or_parts begun (begins_row s) cell.2 in
-        inr (cell.0, cell.1, parts.0, no_row_above line lines s i says parts.1 cell.3)
-  ],
-)
-  where
-    no_row_above : (line : List ℕ) (lines : List (List ℕ)) (s : Said) (i : ℕ) → line_says line ≡ Some s → begins_row s ≡ false → NoRowRead lines i → NoRowRead (line ∷ lines) (suc i)
-    no_row_above line lines s i says no_row rest zero other before at row =
-        let this : line ≡ other = same_Some _ _ at in
-        let begins : s ≡ Row = same_Some _ _ (sym says ∙ ap line_says this ∙ row) in
-        cc (no_row, ap begins_row begins)
-    no_row_above line lines s i says no_row rest (suc j) other before at row = rest j other (omega arith) at row
+bad_above begun line lines s i says bad = grind arith
 
 rows_after : (old next : Table) (s : Said) → table_with_line old s ≡ Some next → has_rows next ≡ has_rows old || begins_row s
 rows_after old next Nothing w = ap has_rows (sym (same_Some _ _ w)) ∙ or_false (has_rows old)
 rows_after old next (Columns n) w = ap has_rows (sym (same_Some _ _ w)) ∙ or_false (has_rows old)
 rows_after old next (Set setting) w = ap has_rows (sym (same_Some _ _ w)) ∙ or_false (has_rows old)
-rows_after old next Row w =
-    let more : nat_lt 0 (length (old.rows ++ [] ∷ [])) ≡ true = lt-ltb _ _ (omega (arith, length-append old.rows ([] ∷ []))) in
-    ap has_rows (sym (same_Some _ _ w)) ∙ more ∙ or_true (has_rows old)
+rows_after old next Row w = grind (arith, length-append, same_Some, or_true)
 rows_after old next (Cell text) w =
     let onto = map_some (λ rows. record old { rows = rows }) (onto_last old.rows text) next w in
     ap has_rows (sym onto.2) ∙ ap (λ n. nat_lt 0 n) (length-onto_last old.rows onto.0 text onto.1) ∙ or_false (has_rows old)
@@ -254,10 +224,7 @@ record FirstBadIn (begun : Bool) (lines : List (List ℕ)) (i : ℕ) : Type 0 wh
   first : (j : ℕ) → j < i → ¬ (BadIn begun lines j)
 
 bad_here : (begun : Bool) (line : List ℕ) (lines : List (List ℕ)) → (line_says line ≡ None) ⊎ ((text : List ℕ) × (line_says line ≡ Some (Cell text)) × (begun ≡ false)) → FirstBadIn begun (line ∷ lines) 0
-bad_here begun line lines why = record {
-  bad = (line, refl, elim why [ inl none ↦ inl none | inr cell ↦ inr (cell.0, cell.1, cell.2, λ j other before at. absurd (omega arith)) ]);
-  first = λ j before. absurd (omega arith);
-}
+bad_here begun line lines why = grind arith
 
 bad_later : (old next : Table) (s : Said) (line : List ℕ) (lines : List (List ℕ)) (i : ℕ) → line_says line ≡ Some s → table_with_line old s ≡ Some next → FirstBadIn (has_rows next) lines i
     → FirstBadIn (has_rows old) (line ∷ lines) (suc i)
@@ -288,10 +255,7 @@ LayoutResult number m old lines = (i : ℕ) × (m ≡ number + i) × FirstBadIn 
 found_next : (number m : ℕ) (old : Table) (line : List ℕ) (lines : List (List ℕ)) (s : Said) → line_says line ≡ Some s
     → ((next : Table) → table_after (number + 1) next lines ≡ Err m → LayoutResult (number + 1) m next lines)
     → (o : Option Table) → table_with_line old s ≡ o → or_bad number o (λ next. table_after (number + 1) next lines) ≡ Err m → LayoutResult number m old (line ∷ lines)
-found_next number m old line lines s says later None w h =
-    let cell = refused_cell old s w in
-    let same : number ≡ m = cc in
-    (0, omega arith, bad_here (has_rows old) line lines (inr (cell.0, says ∙ ap (λ x. Some x) cell.1, cell.2)))
+found_next number m old line lines s says later None w h = grind (arith, refused_cell, bad_here)
 found_next number m old line lines s says later (Some next) w h =
     let rest = later next h in
     (suc rest.0, omega (arith, rest.1), bad_later old next s line lines rest.0 says w rest.2)
@@ -358,7 +322,7 @@ one_first lines i j at_i at_j = elim (order i j) [
     order i j = grind arith
 
 pub first_bad_found : (input : List ℕ) (i : ℕ) → IsFirstBad (script_lines input) i → table_of input ≡ Err (i + 1)
-first_bad_found input i at = by_result (table_of input) refl
+first_bad_found input i at = grind (arith, by_result, none_bad, first_bad_named, one_first)
   where
     by_result : (r : Result Table ℕ) → table_of input ≡ r → r ≡ Err (i + 1)
     by_result (Ok table) e = absurd (none_bad input table e i at.bad)

@@ -25,10 +25,7 @@ onto_none (row ∷ rows) cells text none = absurd (omega arith)
 
 -- a cell that is gathered with the last row's is a cell more in the last row
 pub onto_gathered : (rows : List (List (List ℕ))) (cells : List (List ℕ)) (text : List ℕ) → 0 < length rows → onto_last (with_last rows cells) text ≡ Some (with_last rows (cells ++ text ∷ []))
-onto_gathered rows cells text some =
-    let there = got-set rows (length rows - 1) cells (omega arith) in
-    let twice = set-twice rows (length rows - 1) cells (cells ++ text ∷ []) in
-    rw (length-set rows (length rows - 1) cells, there, twice) refl
+onto_gathered rows cells text some = grind (arith, got-set, set-twice, length-set)
 
 -- a last row in its place
 pub placed : (rows : List (Bor (List (Bor (List ℕ))))) (n : ℕ) (row : Bor (List (Bor (List ℕ)))) (cells : List (Bor (List ℕ))) → n ≡ length rows → row.now ≡ cells

@@ -1,10 +1,9 @@
 -- Texts with escapes, cut at their first backslash.
-use Rattle.std.proofs.Common.{◌≡◌, ◌<◌, ◌≤◌, ◌+◌, ◌-◌, ◌++◌, ◌∷◌, [], ℕ, zero, suc, List, Bool, true, false, not, cond, Option, Some, None, option_map, length, take, drop, length-take, nat_eq, refl, sym, ap, ◌∙◌, append_assoc, arith}
+use Rattle.std.proofs.Common.{◌≡◌, ◌<◌, ◌+◌, ◌-◌, ◌++◌, ◌∷◌, [], ℕ, zero, suc, List, Bool, true, false, not, cond, Option, Some, None, option_map, length, take, drop, length-take, nat_eq, refl, sym, ap, ◌∙◌, append_assoc, arith}
 use Rattle.std.specs.List.{position_or_len, before_first, after_first}
 use Rattle.std.proofs.Math.Utf8.{encode}
 use Rattle.std.proofs.lemmas.Option.{same_Some, none-some, cond_some}
 use Rattle.std.proofs.lemmas.Str.{encode_ascii}
-use borrow.Author.Tests.{eqb-true, ltb-true, ltb-false}
 use Rattle.papergrid_text.proofs.Places.{first_in_front, no_more_than}
 use Rattle.papergrid_script.specs.Grammar.{parted_at}
 use Rattle.papergrid_script.specs.ForProofs.Read.{without_cr}
@@ -39,14 +38,11 @@ later_position false m n h = (refl, omega arith)
 
 pub unescaped-parted : (bs : List ℕ) (n : ℕ) → position_or_len is_backslash bs ≡ n → n < length bs → unescaped bs ≡ option_map (λ more. take n bs ++ more) (unescaped (92 ∷ drop (n + 1) bs))
 unescaped-parted [] n at within = absurd (omega arith)
-unescaped-parted (b ∷ bs) zero at within =
-    let slash : b ≡ 92 = eqb-true b 92 (first_position (nat_eq b 92) _ at) in
-    rw slash (mapped_none (unescaped (92 ∷ bs)))
+unescaped-parted (b ∷ bs) zero at within = grind (arith, first_position, mapped_none)
 unescaped-parted (b ∷ bs) (suc n) at within =
     let position = later_position (nat_eq b 92) _ n at in
     let next : suc n + 1 ≡ suc (n + 1) = omega arith in
-    unescaped-plain b bs position.0 ∙ ap (option_map (λ rest. b ∷ rest)) (unescaped-parted bs n position.1 (omega arith))
-    ∙ rw next (mapped_twice b (take n bs) (unescaped (92 ∷ drop (n + 1) bs)))
+    grind (arith, unescaped-plain, unescaped-parted bs n position.1 (omega arith), next, mapped_twice)
 
 pub unescaped-whole : (bs : List ℕ) → position_or_len is_backslash bs ≡ length bs → unescaped bs ≡ Some bs
 unfolding unescaped
@@ -57,9 +53,7 @@ unescaped-whole (b ∷ bs) none =
 
 put_mapped : (o : Option ℕ) (bs left : List ℕ) (meant : ℕ) → option_map {U = ℕ × List ℕ} (λ m. (m, bs)) o ≡ Some (meant, left) → put_first o (unescaped bs) ≡ option_map (λ more. meant ∷ more) (unescaped left)
 put_mapped None bs left meant h = cc
-put_mapped (Some m) bs left meant h =
-    let same = same_Some (m, bs) (meant, left) h in
-    rw (ap (λ pair. pair.0) same, ap (λ pair. pair.1) same) refl
+put_mapped (Some m) bs left meant h = grind (arith, same_Some)
 
 put_none : (o : Option ℕ) (bs : List ℕ) → option_map {U = ℕ × List ℕ} (λ m. (m, bs)) o ≡ None → put_first o (unescaped bs) ≡ None
 put_none None bs h = refl
@@ -106,9 +100,7 @@ abbrev pub IsCut : List ℕ → List ℕ → List ℕ → Type 0
 IsCut rest plain after = (plain ≡ before_first is_backslash rest) × (after ≡ after_first is_backslash rest) × (position_or_len is_backslash rest < length rest)
 
 pub parted_cut : (rest plain after : List ℕ) → Some (plain, after) ≡ parted_at 92 rest → IsCut rest plain after
-parted_cut rest plain after h =
-    let found = cond_some _ _ _ (sym h) in
-    (ap (λ parts. parts.0) (sym found.1), ap (λ parts. parts.1) (sym found.1), ltb-true _ _ found.0)
+parted_cut rest plain after h = grind (arith, cond_some)
 
 -- a text without one is whole
 has_none : (some : Bool) (parts : List ℕ × List ℕ) → None ≡ cond some (Some parts) None → some ≡ false
@@ -116,10 +108,7 @@ has_none true parts h = absurd (none-some _ h)
 has_none false parts h = refl
 
 pub parted_none : (rest : List ℕ) → None ≡ parted_at 92 rest → position_or_len is_backslash rest ≡ length rest
-parted_none rest h =
-    let past : length rest ≤ position_or_len is_backslash rest = ltb-false _ _ (has_none _ _ h) in
-    let within = no_more_than rest 92 in
-    omega arith
+parted_none rest h = grind (arith, has_none, no_more_than)
 
 pub cut_open : (rest plain after : List ℕ) → IsCut rest plain after → unescaped rest ≡ option_map (λ more. plain ++ more) (unescaped (92 ∷ after))
 cut_open rest plain after cut = unescaped-parted rest (position_or_len is_backslash rest) refl cut.2 ∙ rw (cut.0, cut.1) refl
@@ -129,9 +118,7 @@ abbrev pub IsSoFar : Option (List ℕ) → List ℕ → List ℕ → Type 0
 IsSoFar meant text rest = meant ≡ option_map (λ more. text ++ more) (unescaped rest)
 
 pub stopped : (meant : Option (List ℕ)) (text after : List ℕ) → None ≡ escape_at after → IsSoFar meant text (92 ∷ after) → None ≡ meant
-stopped meant text after none so_far =
-    let nothing = unescaped-no_escape after (sym none) in
-    sym (so_far ∙ rw nothing refl)
+stopped meant text after none so_far = grind (arith, unescaped-no_escape)
 
 joined : (text piece : List ℕ) (o : Option (List ℕ)) → option_map (λ more. text ++ more) (option_map (λ more. piece ++ more) o) ≡ option_map (λ more. (text ++ piece) ++ more) o
 joined text piece None = refl
@@ -149,6 +136,4 @@ past_plain meant text rest plain after new cut pushed so_far =
     so_far ∙ rw (open_rest, pushed) (joined text plain (unescaped (92 ∷ after)))
 
 pub finished : (meant : Option (List ℕ)) (text rest new : List ℕ) → position_or_len is_backslash rest ≡ length rest → new ≡ text ++ rest → IsSoFar meant text rest → Some new ≡ meant
-finished meant text rest new none pushed so_far =
-    let whole = unescaped-whole rest none in
-    sym (so_far ∙ rw (whole, pushed) refl)
+finished meant text rest new none pushed so_far = grind (arith, unescaped-whole)

@@ -1,7 +1,6 @@
 -- What an estimate is, by the answers of a dimension, and what follows from it.
-use Rattle.std.proofs.Common.{◌≡◌, ◌⊎◌, ◌∙◌, ℕ, ◌<◌, ◌≤◌, ◌^◌, Bool, true, false, List, ◌||◌, map, refl, ap, sym, subst, arith, inl, inr, nat_le}
-use Rattle.std.specs.Prelude.{Option, Some, None, Result, Ok, Err, if◌then◌else◌}
-use Rattle.std.proofs.lemmas.Bool.Decides.{nat_tests}
+use Rattle.std.proofs.Common.{◌≡◌, ◌⊎◌, ◌∙◌, ℕ, ◌<◌, ◌≤◌, ◌^◌, Bool, true, false, List, ◌||◌, map, refl, ap, sym, subst, arith, inl, inr, rules}
+use Rattle.std.specs.Prelude.{Option, Some, None, Result, Ok, Err}
 use Rattle.papergrid_values.specs.declared.per_direction.PerDirection.{PerDirection}
 use Rattle.papergrid_values.specs.declared.position.Position.{Position}
 use Rattle.papergrid_values.specs.declared.direction.Direction.TheVariants.{Columns, Rows}
@@ -33,20 +32,10 @@ or_true false = refl
 -- ---- totals
 
 pub large : (found : PerDirection Solution) → (2 ^ 64 ≤ found.columns.total) ⊎ (2 ^ 64 ≤ found.rows.total) → unless_large found ≡ TooLarge
-large found past = by_test found.columns.total found.rows.total past
-  where
-    by_test : (m n : ℕ) → (2 ^ 64 ≤ m) ⊎ (2 ^ 64 ≤ n) → (if nat_le (2 ^ 64) m || nat_le (2 ^ 64) n then TooLarge else Sized found) ≡ TooLarge
-    by_test m n (inl wide) = let test : nat_le (2 ^ 64) m ≡ true = grind (arith, nat_tests) in rw test refl
-    by_test m n (inr high) = let test : nat_le (2 ^ 64) n ≡ true = grind (arith, nat_tests) in rw (test, or_true) refl
+large found past = grind arith
 
 pub sized : (found : PerDirection Solution) → found.columns.total < 2 ^ 64 → found.rows.total < 2 ^ 64 → unless_large found ≡ Sized found
-sized found narrow low = by_test found.columns.total found.rows.total narrow low
-  where
-    by_test : (m n : ℕ) → m < 2 ^ 64 → n < 2 ^ 64 → (if nat_le (2 ^ 64) m || nat_le (2 ^ 64) n then TooLarge else Sized found) ≡ Sized found
-    by_test m n narrow low =
-        let wide : nat_le (2 ^ 64) m ≡ false = grind (arith, nat_tests) in
-        let high : nat_le (2 ^ 64) n ≡ false = grind (arith, nat_tests) in
-        rw (wide, high) refl
+sized found narrow low = grind arith
 
 -- ---- along a direction
 
@@ -113,15 +102,7 @@ module _ {C : Type 0} (grid : Grid) (measure : C → ℕ × ℕ) (columns : ℕ)
 
     -- what is found is what is estimated
     pub estimate_found : (found : PerDirection Solution) → AreSolutionsBy grid measure columns cells sizing found → estimate_by sizing grid measure columns cells ≡ Sized found
-    estimate_found found are =
-        let wide = are_found sizing across found.columns.sizes are.widths.sizes in
-        let high = are_found sizing down found.rows.sizes are.heights.sizes in
-        let same_wide = found_solution sizing across found.columns are.widths in
-        let same_high = found_solution sizing down found.rows are.heights in
-        let same : unless_large (solutions_by sizing across down) ≡ unless_large found =
-        λ i. unless_large (record { columns = sym same_wide i; rows = sym same_high i }) in
-        estimate_inside ((none_overflows grid measure columns cells).1 (wide.none_out, high.none_out)) ∙ same
-        ∙ sized found (subst (λ t. t < 2 ^ 64) (sym are.widths.total) wide.total) (subst (λ t. t < 2 ^ 64) (sym are.heights.total) high.total)
+    estimate_found found are = search (rules, are_found, found_solution, unless_large, estimate_inside, none_overflows, sized)
 
     -- an estimate is the one that is computed
     pub estimate-only : (e : Estimate) → IsEstimateBy grid measure columns cells sizing e → e ≡ estimate_by sizing grid measure columns cells

@@ -29,10 +29,7 @@ module _ (text : List ℕ) (byte at : ℕ) (within : at < length text) (there : 
   parts i j = Some (take i text, drop j text)
 
   around : (n : ℕ) → n ≡ length text - (at + 1) → parts at (at + 1) ≡ parts (length text - n - 1) (length text - n)
-  around n e =
-      let before : at ≡ length text - n - 1 = omega (arith, e) in
-      let after : at + 1 ≡ length text - n = omega (arith, e) in
-      ap (λ i. parts i (at + 1)) before ∙ ap (λ j. parts (length text - n - 1) j) after
+  around n e = grind arith
 
   pub last_there : parts at (at + 1) ≡ parted_at_last byte text
   last_there = around _ behind ∙ sym (ap (λ b. cond b (Some (before_last (λ b. b == byte) text, after_last (λ b. b == byte) text)) None) (lt-ltb _ _ first))

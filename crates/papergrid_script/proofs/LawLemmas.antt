@@ -1,7 +1,6 @@
 -- Each table has an estimate, and no other.
-use Rattle.std.proofs.Common.{◌≡◌, ◌⊎◌, ◌∙◌, ℕ, ◌<◌, ◌≤◌, ◌^◌, Bool, true, false, ◌||◌, map, refl, sym, subst, arith, inl, inr, nat_le}
+use Rattle.std.proofs.Common.{◌≡◌, ◌⊎◌, ℕ, ◌<◌, ◌≤◌, ◌^◌, Bool, true, false, map, refl, sym, subst, arith, inl, inr, rules}
 use Rattle.std.specs.Prelude.{All, Option, Some, None, if◌then◌else◌}
-use Rattle.std.proofs.lemmas.Bool.Decides.{nat_tests}
 use Rattle.std.proofs.lemmas.List.Elements.{All-map}
 use Rattle.papergrid_values.specs.declared.per_direction.PerDirection.{PerDirection}
 use Rattle.papergrid_values.specs.declared.position.Position.{Position}
@@ -46,7 +45,7 @@ module _ (problem : Problem) (table : All (IsInTable problem.count) problem.dema
   has_none Least past = AreLeastTooLarge-least_of problem table inside past
 
   shares_certificate : total_of problem (sizes_of problem) < 2 ^ 64 → IsCertificateBy ByShares problem (certificate_by_shares problem)
-  shares_certificate small = by_test (is_laminar problem.demands) refl
+  shares_certificate small = grind (arith, by_test, is_laminar, Decides-is_laminar, IsCertificate-certificate_cells_of, SomeCross-from_test)
     where
       by_test : (test : Bool) → is_laminar problem.demands ≡ test → IsCertificateBy ByShares problem (if test then Some (map position_of (certificate_cells_of problem)) else None)
       by_test true t =
@@ -60,9 +59,7 @@ module _ (problem : Problem) (table : All (IsInTable problem.count) problem.dema
 
 -- where the least sizes are too large, so are those by shares
 shares-past : (problem : Problem) → AreTooLargeBy Least problem → AreTooLargeBy ByShares problem
-shares-past problem none =
-    let past : 18446744073709551616 ≤ total_of problem (sizes_of problem) = none.others_too_large tt (sizes_of problem) (Fits-sizes_of problem none.table) in
-    AreSizesTooLarge-sizes_of problem none.table (λ small. absurd (omega arith))
+shares-past problem none = grind (arith, Fits-sizes_of, AreSizesTooLarge-sizes_of)
 
 -- ---- the three answers
 
@@ -71,20 +68,7 @@ estimate_cases : (o : Option Position) (found : PerDirection Solution) (e : Esti
     ⊎ (((o ≡ None) × (e ≡ TooLarge) × ((2 ^ 64 ≤ found.columns.total) ⊎ (2 ^ 64 ≤ found.rows.total)))
     ⊎ ((o ≡ None) × (e ≡ Sized found) × (found.columns.total < 2 ^ 64) × (found.rows.total < 2 ^ 64)))
 estimate_cases (Some position) found e is = inl (position, refl, sym is)
-estimate_cases None found e is = elim (by_test found.columns.total found.rows.total is (nat_le (2 ^ 64) found.columns.total) (nat_le (2 ^ 64) found.rows.total) refl refl) [
-  | inl large ↦ inr (inl (refl, large.0, large.1))
-  | inr sized ↦ inr (inr (refl, sized.0, sized.1, sized.2))
-]
-  where
-    by_test : (m n : ℕ) → (if nat_le (2 ^ 64) m || nat_le (2 ^ 64) n then TooLarge else Sized found) ≡ e
-        → (p q : Bool) → nat_le (2 ^ 64) m ≡ p → nat_le (2 ^ 64) n ≡ q
-        → ((e ≡ TooLarge) × ((2 ^ 64 ≤ m) ⊎ (2 ^ 64 ≤ n))) ⊎ ((e ≡ Sized found) × (m < 2 ^ 64) × (n < 2 ^ 64))
-    by_test m n is true q wide high = let past : 2 ^ 64 ≤ m = grind (arith, nat_tests) in inl (sym is ∙ rw wide refl, inl past)
-    by_test m n is false true wide high = let past : 2 ^ 64 ≤ n = grind (arith, nat_tests) in inl (sym is ∙ rw (wide, high) refl, inr past)
-    by_test m n is false false wide high =
-        let narrow : m < 2 ^ 64 = grind (arith, nat_tests) in
-        let low : n < 2 ^ 64 = grind (arith, nat_tests) in
-        inr (sym is ∙ rw (wide, high) refl, narrow, low)
+estimate_cases None found e is = grind arith
 
 -- what the sizes of a table along a direction are found for
 abbrev problem_of_table : Table → Direction → Problem
@@ -126,13 +110,7 @@ module _ (table : Table) where
     -- along a direction
     solution_is : (direction : Direction) → first_out (problem_of_table table direction).count (problem_of_table table direction).demands ≡ None → total direction < 2 ^ 64
         → IsSolutionBy sizing (problem_of_table table direction) (along direction)
-    solution_is direction inside small =
-        let problem = problem_of_table table direction in
-        record {
-          sizes = sizes_are problem (in_table direction inside) inside sizing small;
-          total = total_by sizing problem;
-          certificate = is_certificate problem (in_table direction inside) inside sizing small;
-        }
+    solution_is direction inside small = search (rules, sizes_are, in_table, total_by, is_certificate)
 
     are_sized : first ≡ None → total Columns < 2 ^ 64 → total Rows < 2 ^ 64 → IsBy (Sized solutions)
     are_sized none narrow low =
@@ -140,24 +118,11 @@ module _ (table : Table) where
         record { widths = solution_is Columns inside.0 narrow; heights = solution_is Rows inside.1 low }
 
     are_large : first ≡ None → (2 ^ 64 ≤ total Columns) ⊎ (2 ^ 64 ≤ total Rows) → IsBy TooLarge
-    are_large none past =
-        let inside = (none_overflows grid text_measure table.columns table.rows).0 none in (
-          none,
-          elim past [
-            | inl wide ↦ inl (has_none (problem_of_table table Columns) (in_table Columns inside.0) inside.0 sizing wide)
-            | inr high ↦ inr (has_none (problem_of_table table Rows) (in_table Rows inside.1) inside.1 sizing high)
-          ],
-        )
+    are_large none past = grind (arith, none_overflows, has_none, in_table)
 
     -- what is computed is the estimate
     computed : IsBy (estimate_of sizing table)
-    computed = elim (cases (estimate_of sizing table) refl) [
-      | inl out ↦ subst IsBy (sym out.2) out.1
-      | inr other ↦ elim other [
-        | inl large ↦ subst IsBy (sym large.1) (are_large large.0 large.2)
-        | inr sized ↦ subst IsBy (sym sized.1) (are_sized sized.0 sized.2 sized.3)
-      ]
-    ]
+    computed = grind (arith, cases (estimate_of sizing table) refl, estimate_of, are_large, are_sized)
 
     pub estimate-computed : IsEstimate sizing table (estimate_of sizing table)
     estimate-computed = (grid, is-grid table.settings, computed)

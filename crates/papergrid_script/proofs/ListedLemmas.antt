@@ -67,9 +67,7 @@ module _ {K X : Type 0} (R : K → K → Ordering) where
 
   entries-tabulated : IsTotalOrder R → (value : K → Option X) (keys : List K) → entries (tabulation {R = R} value keys) ≡ listed value keys
   entries-tabulated total value [] = no_entries _ (sym (len-entries (empty {R = R})) ∙ len-empty R X)
-  entries-tabulated total value (key ∷ keys) =
-      entries-with_value total (tabulation value keys) key (value key)
-      ∙ ap (λ es. with_entry es key (value key)) (entries-tabulated total value keys)
+  entries-tabulated total value (key ∷ keys) = grind (arith, entries-with_value, tabulation, entries-tabulated total value keys)
 
 -- ---- lines, by lists
 
@@ -221,16 +219,7 @@ listed_grid settings =
 
 grid_listed : (settings : List Setting) → grid_of settings ≡ listed_grid settings
 unfolding grid_of
-grid_listed settings =
-    let calls = flat_map span_calls settings in
-    let lines = flat_map character_calls settings in
-    λ i. record {
-      shows = λ p. made_shows calls p i;
-      span = λ direction p. made_spans calls direction p i;
-      before = λ direction p. size_before direction (padding_of settings p);
-      after = λ direction p. size_after direction (padding_of settings p);
-      draws = λ direction count position. made_lines lines direction count position i;
-    }
+grid_listed settings = grind (arith, made_shows, made_spans, padding_of, made_lines)
 
 -- ---- what is written
 

@@ -1,8 +1,7 @@
 -- What is read as a line of a script is spelled so.
-use Rattle.std.proofs.Common.{◌≡◌, ◌⊎◌, ◌<◌, ◌^◌, ◌++◌, ◌∷◌, [], ℕ, List, true, cond, Option, Some, None, option_map, length, drop, get_or, codes, bytes_eq, nat_eq, refl, sym, ap, ◌∙◌, subst, lit<, inl, inr}
+use Rattle.std.proofs.Common.{◌≡◌, ◌⊎◌, ◌<◌, ◌++◌, ◌∷◌, [], ℕ, List, true, cond, Option, Some, None, option_map, length, drop, get_or, codes, bytes_eq, nat_eq, refl, sym, ap, ◌∙◌, subst, lit<, inl, inr, arith, rules}
 use Rattle.std.specs.List.{starts_with, before_first, after_first, position_or_len}
 use Rattle.std.specs.Prelude.{IsUtf8}
-use Rattle.std.specs.Str.{is_utf8}
 use Rattle.std.proofs.lemmas.Bool.{and_parts}
 use Rattle.std.proofs.lemmas.List.Sums.{split_at_first, passes_at_first}
 use Rattle.std.proofs.lemmas.Option.{same_Some, none-some, cond_some}
@@ -21,7 +20,7 @@ use Rattle.papergrid_config.specs.declared.setting.Setting.TheVariants.{SetPaddi
 use Rattle.papergrid_values.specs.Compact.{spaces}
 use Rattle.papergrid_text.specs.Text.{character_of}
 use Rattle.papergrid_script.specs.Grammar.{◌>>=◌, pair_at, parted_at, number_said, position_said, position_and_count, entity_said, sides_of, padding_of, number_and_character, keyword_setting, keyword_says, text_says, line_says, vertical_main, horizontal_main}
-use Rattle.papergrid_script.specs.Spelling.{Said, Nothing, Columns, Set, Row, Cell}
+use Rattle.papergrid_script.specs.Spelling.{Said, Nothing, Row, Cell}
 use Rattle.papergrid_script.specs.Spelling.{IsNumber, IsPosition, IsEntity, AreSides, Four, IsCharacter, IsSetting, Pad, Colspan, Rowspan, Border, Vline, Hline, Novline, Nohline, Means, Ended, Plain, Newline, Tab, Backslash, IsLine}
 use Rattle.papergrid_script.proofs.CharacterLemmas.{character_read, text_behind}
 use Rattle.papergrid_script.specs.Texts.{unescaped, escape_of, put_first}
@@ -76,16 +75,7 @@ pair_read {A} {B} byte first second bytes pair h =
 
 pub number_read : (digits : List ℕ) (n : ℕ) → number_said digits ≡ Some n → IsNumber digits n
 unfolding number_said
-number_read digits n h =
-    let parts = cond_some _ _ _ h in
-    let both = and_parts _ _ parts.0 in
-    let front = and_parts _ _ both.0 in
-    record {
-      digits_alone = front.0;
-      some = ltb-true _ _ front.1;
-      value = parts.1;
-      fits = subst (λ (m : ℕ). m < 2 ^ 64) parts.1 (ltb-true _ _ both.1);
-    }
+number_read digits n h = grind (arith, cond_some, and_parts)
 
 starts_one : (c : ℕ) (bs : List ℕ) → starts_with nat_eq bs (c ∷ []) ≡ true → bs ≡ c ∷ drop 1 bs
 starts_one c [] h = cc
@@ -104,16 +94,7 @@ position_read bytes position h =
 
 pub entity_read : (bytes : List ℕ) (entity : Entity) → entity_said bytes ≡ Some entity → IsEntity bytes entity
 unfolding entity_said
-entity_read bytes entity h = elim (chosen (bytes_eq bytes (codes "*")) (Some entities.Global) _ (Some entity) h) [
-  | inl star ↦ subst (IsEntity bytes) (same_Some _ _ star.1) (is_word bytes (codes "*") star.0)
-  | inr other ↦ elim (chosen (starts_with nat_eq bytes (codes "c")) (option_map entities.Column (number_said (drop 1 bytes))) _ (Some entity) other.1) [
-    | inl col ↦ let n = map_some entities.Column (number_said (drop 1 bytes)) entity col.1 in subst (IsEntity bytes) n.2 (drop 1 bytes, number_read _ _ n.1, starts_one 99 bytes col.0)
-    | inr more ↦ elim (chosen (starts_with nat_eq bytes (codes "r")) (option_map entities.Row (number_said (drop 1 bytes))) (option_map cell_at (position_said bytes)) (Some entity) more.1) [
-      | inl row ↦ let n = map_some entities.Row (number_said (drop 1 bytes)) entity row.1 in subst (IsEntity bytes) n.2 (drop 1 bytes, number_read _ _ n.1, starts_one 114 bytes row.0)
-      | inr cell ↦ let position = map_some cell_at (position_said bytes) entity cell.1 in subst (IsEntity bytes) position.2 (position_read bytes position.0 position.1)
-    ]
-  ]
-]
+entity_read bytes entity h = grind (arith, chosen, same_Some, is_word, map_some, number_read, starts_one, position_read)
 
 abbrev sides_with : ℕ → ℕ → ℕ → ℕ → Sides Indent
 sides_with l r t b = record { top = spaces t; bottom = spaces b; left = spaces l; right = spaces r }
@@ -235,16 +216,7 @@ put_some (Some b) None meant h = absurd (none-some meant h)
 put_some (Some b) (Some bs) meant h = (b, bs, refl, refl, same_Some _ _ h)
 
 escape_read : (d m : ℕ) → escape_of d ≡ Some m → ((d ≡ 110) × (10 ≡ m)) ⊎ ((d ≡ 116) × (9 ≡ m)) ⊎ ((d ≡ 92) × (92 ≡ m))
-escape_read d m h = elim (chosen (nat_eq d 110) (Some 10) (cond (nat_eq d 116) (Some 9) (cond (nat_eq d 92) (Some 92) None)) (Some m) h) [
-  | inl n ↦ inl (eqb-true d 110 n.0, same_Some _ _ n.1)
-  | inr other ↦ elim (chosen (nat_eq d 116) (Some 9) (cond (nat_eq d 92) (Some 92) None) (Some m) other.1) [
-    | inl t ↦ inr (inl (eqb-true d 116 t.0, same_Some _ _ t.1))
-    | inr more ↦ elim (chosen (nat_eq d 92) (Some 92) None (Some m) more.1) [
-      | inl slash ↦ inr (inr (eqb-true d 92 slash.0, same_Some _ _ slash.1))
-      | inr none ↦ absurd (none-some m none.1)
-    ]
-  ]
-]
+escape_read d m h = grind (arith, chosen, same_Some, none-some)
 
 -- an escape, by the byte after the backslash and the byte that it means
 escape_means : (d m : ℕ) (spelled meant : List ℕ) → ((d ≡ 110) × (10 ≡ m)) ⊎ ((d ≡ 116) × (9 ≡ m)) ⊎ ((d ≡ 92) × (92 ≡ m)) → Means spelled meant → Means (92 ∷ d ∷ spelled) (m ∷ meant)
@@ -278,19 +250,7 @@ means_read (b ∷ c ∷ bs) meant h =
 
 keyword_read : (keyword rest : List ℕ) (s : Said) → IsUtf8 rest → keyword_says keyword rest ≡ Some s → IsLine (keyword ++ 32 ∷ rest) s
 unfolding keyword_says
-keyword_read keyword rest s text h = elim (chosen (bytes_eq keyword (codes "cell")) (option_map Cell (unescaped rest)) _ (Some s) h) [
-  | inl cell ↦
-      let meant = map_some Cell (unescaped rest) s cell.1 in
-      subst (IsLine (keyword ++ 32 ∷ rest)) meant.2 (inr (rest, means_read rest meant.0 meant.1, ap (λ w. w ++ 32 ∷ rest) (is_word keyword (codes "cell") cell.0)))
-  | inr other ↦ elim (chosen (bytes_eq keyword (codes "columns")) (option_map Columns (number_said rest)) _ (Some s) other.1) [
-    | inl columns ↦
-        let n = map_some Columns (number_said rest) s columns.1 in
-        subst (IsLine (keyword ++ 32 ∷ rest)) n.2 (rest, number_read rest n.0 n.1, ap (λ w. w ++ 32 ∷ rest) (is_word keyword (codes "columns") columns.0))
-    | inr more ↦
-        let setting = map_some Set (keyword_setting keyword rest) s more.1 in
-        subst (IsLine (keyword ++ 32 ∷ rest)) setting.2 (setting_read keyword rest setting.0 text setting.1)
-  ]
-]
+keyword_read keyword rest s text h = search (rules, chosen, map_some, means_read, is_word, number_read, setting_read)
 
 text_read : (line : List ℕ) (s : Said) → IsUtf8 line → text_says line ≡ Some s → IsLine line s
 unfolding text_says
@@ -311,7 +271,4 @@ text_read line s text h = elim (chosen (bytes_eq line (codes "")) (Some Nothing)
 
 pub line_read : (line : List ℕ) (s : Said) → line_says line ≡ Some s → IsUtf8 line × IsLine line s
 unfolding line_says
-line_read line s h = elim (chosen (is_utf8 line) (text_says line) None (Some s) h) [
-  | inl is ↦ let text = IsUtf8-from_is_utf8 line is.0 in (text, text_read line s text is.1)
-  | inr none ↦ absurd (none-some s none.1)
-]
+line_read line s h = grind (arith, chosen, IsUtf8-from_is_utf8, text_read, none-some)

@@ -24,10 +24,7 @@ one-saids [] (x ∷ xs) ys a b = absurd a
 one-saids [] xs (y ∷ ys) a b = absurd b
 one-saids (line ∷ lines) [] ys a b = absurd a
 one-saids (line ∷ lines) xs [] a b = absurd b
-one-saids (line ∷ lines) (x ∷ xs) (y ∷ ys) a b =
-    let head = one-said line x y a.0 b.0 in
-    let tail = one-saids lines xs ys a.1 b.1 in
-    λ i. head i ∷ tail i
+one-saids (line ∷ lines) (x ∷ xs) (y ∷ ys) a b = grind (arith, one-said, one-saids lines xs ys a.1 b.1)
 
 -- ---- the rows
 
@@ -49,10 +46,7 @@ one-rows : (rows other : List (List (List ℕ))) → rows_said rows ≡ rows_sai
 one-rows [] [] is = refl
 one-rows [] (row ∷ other) is = cc is
 one-rows (row ∷ rows) [] is = cc is
-one-rows (row ∷ rows) (also ∷ other) is =
-    let more : map Cell row ++ rows_said rows ≡ map Cell also ++ rows_said other = cc is in
-    let same = one-row rows (one-rows rows) row also other more in
-    λ i. same.0 i ∷ same.1 i
+one-rows (row ∷ rows) (also ∷ other) is = grind (arith, one-row, one-rows rows)
 
 -- ---- one table
 

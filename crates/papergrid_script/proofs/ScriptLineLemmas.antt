@@ -1,5 +1,5 @@
 -- The lines of a script are what their relation says, and nothing else is.
-use Rattle.std.proofs.Common.{◌≡◌, ◌≢◌, ℕ, ◌-◌, ◌+◌, ◌<◌, List, [], ◌∷◌, ◌++◌, Bool, true, false, inl, inr, add-one, length, take, drop, get_or, map, nat_eq, refl, sym, ap, ◌∙◌, arith, length-append, take-append-drop}
+use Rattle.std.proofs.Common.{◌≡◌, ◌≢◌, ℕ, ◌-◌, ◌+◌, List, [], ◌∷◌, ◌++◌, Bool, true, false, inl, inr, add-one, length, take, get_or, map, nat_eq, refl, ap, ◌∙◌, arith, length-append, take-append-drop, rules}
 use Rattle.std.specs.List.{AllZip}
 use Rattle.std.proofs.lemmas.Bool.Decides.{nat_tests}
 use Rattle.std.proofs.lemmas.List.{append_cancel_right, drop_all}
@@ -12,19 +12,12 @@ use Rattle.papergrid_script.specs.ScriptLines.{AreScriptLines, IsWithoutLast}
 -- ---- one element less at the end, or none
 
 without_last-only : {A : Type 0} (x : A) (all one other : List A) → IsWithoutLast x all one → IsWithoutLast x all other → one ≡ other
-without_last-only x all one other p q =
-    elim p [
-      | inl e ↦ elim q [ inl d ↦ append_cancel_right one other (x ∷ []) (sym e ∙ d) | inr d ↦ absurd (d.0 one e) ]
-      | inr e ↦ elim q [ inl d ↦ absurd (e.0 other d) | inr d ↦ e.1 ∙ sym d.1 ]
-    ]
+without_last-only x all one other p q = grind (arith, append_cancel_right)
 
 -- ---- one carriage return
 
 last_dropped : (b : ℕ) (line : List ℕ) (n : ℕ) → n + 1 ≡ length line → get_or line n 0 ≡ b → line ≡ take n line ++ b ∷ []
-last_dropped b line n whole at =
-    let within : n < length line = omega arith in
-    let end : drop (n + 1) line ≡ [] = drop_all _ line (omega arith) in
-    sym (take-append-drop n line) ∙ ap (λ rest. take n line ++ rest) (drop-cons line n 0 within ∙ rw (at, ← add-one) (ap (λ rest. b ∷ rest) end))
+last_dropped b line n whole at = grind (arith, drop_all, take-append-drop, drop-cons, add-one)
 
 last_of : (b : ℕ) (front : List ℕ) → get_or (front ++ b ∷ []) (length (front ++ b ∷ []) - 1) 0 ≡ b
 last_of b front =
@@ -36,7 +29,7 @@ some [] e = absurd (grind (arith, nat_tests, e))
 some (b ∷ bs) e = omega arith
 
 without_cr-is : (line : List ℕ) → IsWithoutLast 13 line (without_cr line)
-without_cr-is line = by_test (nat_eq (get_or line (length line - 1) 0) 13) refl
+without_cr-is line = grind (arith, by_test, last_dropped, some, nat_tests, last_of)
   where
     by_test : (b : Bool) → nat_eq (get_or line (length line - 1) 0) 13 ≡ b → IsWithoutLast 13 line (without_cr line)
     by_test true e = rw e (inl (last_dropped 13 line (length line - 1) (some line e) (grind (arith, nat_tests, e))))
@@ -53,10 +46,7 @@ all_without-only : (kept lines : List (List ℕ)) → AllZip (IsWithoutLast 13) 
 all_without-only [] [] are = refl
 all_without-only [] (line ∷ lines) are = absurd are
 all_without-only (piece ∷ pieces) [] are = absurd are
-all_without-only (piece ∷ pieces) (line ∷ lines) are =
-    let head = without_last-only 13 piece line (without_cr piece) are.0 (without_cr-is piece) in
-    let tail = all_without-only pieces lines are.1 in
-    λ i. head i ∷ tail i
+all_without-only (piece ∷ pieces) (line ∷ lines) are = search (rules, without_last-only, without_cr-is, all_without-only pieces lines are.1)
 
 -- ---- an empty last piece
 

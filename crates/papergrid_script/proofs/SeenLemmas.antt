@@ -1,5 +1,5 @@
 -- What a configuration with a script's settings as its history is estimated to, over the script's rows.
-use Rattle.std.proofs.Common.{◌≡◌, ℕ, List, map, ap, subst, ◌∙◌}
+use Rattle.std.proofs.Common.{◌≡◌, ℕ, List, map, ap, subst, ◌∙◌, arith}
 use Rattle.std.specs.Prelude.{Result}
 use Rattle.std.specs.Borrow.{Bor}
 use Rattle.papergrid_text.proofs.RowSteps.{told_by}
@@ -39,5 +39,4 @@ pub gives_seen : {A : Type 0} (view : A → Bor (List ℕ)) (script : Script) (c
     → HasSettingHistory (map setting_told script.settings.items) config → rows ≡ script.rows.items → columns ≡ script.columns
     → GivesEstimate result (λ e. (cells : List (List A)) × (map (map view) cells ≡ map (λ row. row.now) rows) × IsEstimateBy (spanned_grid config) (line_measure (λ cell. (view cell).now)) columns cells sizing e)
     → GivesEstimate result (IsEstimate sizing (table_seen script))
-gives_seen view script config rows columns sizing result told same_rows same_columns gave =
-    gives_also result _ _ (λ e so. seen view script config so.0 rows columns sizing e told so.1 same_rows same_columns so.2) gave
+gives_seen view script config rows columns sizing result told same_rows same_columns gave = grind (arith, gives_also, seen)

@@ -1,8 +1,7 @@
 -- What is spelled as the grammar says is read.
-use Rattle.std.proofs.Common.{◌≡◌, ◌<◌, ◌^◌, ◌+◌, ◌++◌, ◌∷◌, [], ℕ, suc, List, true, false, not, Some, option_map, length, drop, codes, nat_eq, nat_lt, refl, sym, ap, ◌∙◌, subst, arith, length-append, lit<, inl, inr}
+use Rattle.std.proofs.Common.{◌≡◌, ◌<◌, ◌+◌, ◌++◌, ◌∷◌, [], ℕ, suc, List, true, false, not, Some, option_map, length, drop, codes, nat_eq, refl, sym, ap, ◌∙◌, subst, arith, length-append, lit<, inl, inr}
 use Rattle.std.specs.List.{list_all, position_or_len}
 use Rattle.std.specs.Str.{all_ascii_digits}
-use Rattle.std.specs.Str.Parse.{digits_value}
 use Rattle.std.proofs.lemmas.Bool.{and_parts}
 use Rattle.std.proofs.lemmas.Str.Parse.{tells_all_ascii_digits}
 use Rattle.std.proofs.lemmas.Bool.Decides.{nat_tests}
@@ -11,7 +10,7 @@ use Rattle.std.proofs.lemmas.Str.{is_utf8-from_IsUtf8}
 use Rattle.std.proofs.Math.Seq.{take-append_seam}
 use Rattle.papergrid_script.proofs.EscapeLemmas.{unescaped-plain}
 use Rattle.std.proofs.lemmas.List.Folds.{list_all-append}
-use borrow.Author.Tests.{lt-ltb, eq-eqb}
+use borrow.Author.Tests.{eq-eqb}
 use Rattle.papergrid_values.specs.declared.entity.Entity.{Entity}
 use Rattle.papergrid_values.specs.declared.entity.Entity.TheVariants as entities
 use Rattle.papergrid_values.specs.declared.indent.Indent.{Indent}
@@ -45,18 +44,13 @@ behind c [] rest = refl
 behind c (b ∷ word) rest = let next : suc (length word) + 1 ≡ suc (length word + 1) = omega arith in rw next (behind c word rest)
 
 pub parted_after : (c : ℕ) (word rest : List ℕ) → lacks c word → parted_at c (word ++ c ∷ rest) ≡ Some (word, rest)
-parted_after c word rest none =
-    let at : position_or_len (λ b. nat_eq b c) (word ++ c ∷ rest) ≡ length word = position_after c word rest none in
-    let below : nat_lt (length word) (length (word ++ c ∷ rest)) ≡ true = lt-ltb _ _ (omega (arith, length-append word (c ∷ rest))) in
-    rw (at, below, take-append_seam word (c ∷ rest), behind c word rest) refl
+parted_after c word rest none = grind (arith, position_after, length-append, take-append_seam, behind)
 
 -- ---- numbers and entities
 
 pub number_spelled : (digits : List ℕ) (n : ℕ) → IsNumber digits n → number_said digits ≡ Some n
 unfolding number_said
-number_spelled digits n h =
-    let small : digits_value 10 digits < 2 ^ 64 = rw h.value h.fits in
-    rw (h.digits_alone, lt-ltb _ _ h.some, lt-ltb _ _ small, h.value) refl
+number_spelled digits n h = grind arith
 
 -- a digit is none of the other characters of the grammar
 digits_lack : (c : ℕ) (digits : List ℕ) → c < 48 → all_ascii_digits digits ≡ true → lacks c digits
@@ -68,23 +62,16 @@ digits_lack c (d ∷ digits) low h =
 
 position_spelled : (bytes : List ℕ) (position : Position) → IsPosition bytes position → position_said bytes ≡ Some position
 unfolding position_said
-position_spelled bytes position h =
-    rw (h.4, parted_after 44 h.0 h.1 (digits_lack 44 h.0 (lit< tt) h.2.digits_alone), number_spelled h.0 position.row h.2, number_spelled h.1 position.col h.3) refl
+position_spelled bytes position h = grind (arith, parted_after, digits_lack, number_spelled)
 
 position_lacks : (bytes : List ℕ) (position : Position) → IsPosition bytes position → lacks 32 bytes
-position_lacks bytes position h = subst (lacks 32) (sym h.4)
-    (list_all-append (λ b. not (nat_eq b 32)) h.0 (44 ∷ h.1) ∙ rw (digits_lack 32 h.0 (lit< tt) h.2.digits_alone) (digits_lack 32 h.1 (lit< tt) h.3.digits_alone))
+position_lacks bytes position h = grind (arith, list_all-append, digits_lack)
 
 -- a number and a comma are no star, and no letter stands first
 number_first : (row col : List ℕ) → all_ascii_digits row ≡ true → 0 < length row → option_map cell_at (position_said (row ++ 44 ∷ col)) ≡ entity_said (row ++ 44 ∷ col)
 unfolding entity_said
 number_first [] col h some = absurd (omega arith)
-number_first (d ∷ digits) col h some =
-    let p = tells_all_ascii_digits.parts d digits h in
-    let star : nat_eq d 42 ≡ false = grind (arith, nat_tests, p.0.0) in
-    let c : nat_eq 99 d ≡ false = grind (arith, nat_tests, p.0.1) in
-    let r : nat_eq 114 d ≡ false = grind (arith, nat_tests, p.0.1) in
-    rw (star, c, r) refl
+number_first (d ∷ digits) col h some = grind (arith, nat_tests)
 
 pub entity_spelled : (bytes : List ℕ) (entity : Entity) → IsEntity bytes entity → entity_said bytes ≡ Some entity
 unfolding entity_said
@@ -119,8 +106,7 @@ sides_spelled _ _ (Four left right top bottom l r t b is_left is_right is_top is
 
 padding_spelled : (spelled rest : List ℕ) (entity : Entity) (sides : Sides Indent) → IsEntity spelled entity → AreSides rest sides → padding_of (spelled ++ 32 ∷ rest) ≡ Some (SetPadding entity sides)
 unfolding padding_of
-padding_spelled spelled rest entity sides is_entity are_sides =
-    rw (parted_after 32 spelled rest (entity_lacks spelled entity is_entity), entity_spelled spelled entity is_entity, sides_spelled rest sides are_sides) refl
+padding_spelled spelled rest entity sides is_entity are_sides = grind (arith, parted_after, entity_lacks, entity_spelled, sides_spelled)
 
 -- ---- spans
 
@@ -133,13 +119,11 @@ span_spelled spelled digits position n is_position is_number =
 
 number_and_character_spelled : (digits x : List ℕ) (position c : ℕ) → IsNumber digits position → IsCharacter x c → number_and_character (digits ++ 32 ∷ x) ≡ Some (position, c)
 unfolding number_and_character
-number_and_character_spelled digits x position c is_number is_character =
-    rw (parted_after 32 digits x (digits_lack 32 digits (lit< tt) is_number.digits_alone), number_spelled digits position is_number, character_spelled x c is_character) refl
+number_and_character_spelled digits x position c is_number is_character = grind (arith, parted_after, digits_lack, number_spelled, character_spelled)
 
 setting_spelled : (line : List ℕ) (setting : Setting) → IsSetting line setting → text_says line ≡ Some (Set setting)
 unfolding text_says keyword_says keyword_setting
-setting_spelled _ _ (Pad spelled rest entity sides is_entity are_sides) =
-    rw (parted_after 32 (codes "pad") (spelled ++ 32 ∷ rest) refl, padding_spelled spelled rest entity sides is_entity are_sides) refl
+setting_spelled _ _ (Pad spelled rest entity sides is_entity are_sides) = grind (arith, parted_after, padding_spelled)
 setting_spelled _ _ (Colspan spelled digits position n is_position is_number) =
     rw (parted_after 32 (codes "colspan") (spelled ++ 32 ∷ digits) refl, span_spelled spelled digits position n is_position is_number) refl
 setting_spelled _ _ (Rowspan spelled digits position n is_position is_number) =
@@ -157,9 +141,7 @@ setting_spelled _ _ (Nohline digits row is_number) = rw (parted_after 32 (codes 
 means_spelled : (spelled meant : List ℕ) → Means spelled meant → unescaped spelled ≡ Some meant
 unfolding unescaped
 means_spelled _ _ Ended = refl
-means_spelled _ _ (Plain b spelled meant other h) =
-    let plain : nat_eq b 92 ≡ false = grind (arith, nat_tests) in
-    unescaped-plain b spelled plain ∙ ap (option_map (λ rest. b ∷ rest)) (means_spelled spelled meant h)
+means_spelled _ _ (Plain b spelled meant other h) = grind (arith, nat_tests, unescaped-plain, means_spelled spelled meant h)
 means_spelled _ _ (Newline spelled meant h) = ap (put_first (Some 10)) (means_spelled spelled meant h)
 means_spelled _ _ (Tab spelled meant h) = ap (put_first (Some 9)) (means_spelled spelled meant h)
 means_spelled _ _ (Backslash spelled meant h) = ap (put_first (Some 92)) (means_spelled spelled meant h)

@@ -1,5 +1,5 @@
 -- What a simple character adds to the width of a text of such characters after it.
-use Rattle.std.proofs.Common.{◌≡◌, ◌≢◌, ◌⊎◌, ℕ, ◌+◌, ◌<◌, ◌≤◌, ◌&&◌, ◌||◌, ◌==◌, Bool, true, false, not, cond, List, [], ◌∷◌, Some, None, refl, sym, ap, ◌∙◌, ap₂, subst, arith, inl, inr}
+use Rattle.std.proofs.Common.{◌≡◌, ◌≢◌, ◌⊎◌, ℕ, ◌+◌, ◌<◌, ◌≤◌, ◌&&◌, ◌||◌, ◌==◌, Bool, true, false, not, cond, List, [], ◌∷◌, Some, None, refl, sym, ap, ◌∙◌, ap₂, subst, arith, inl, inr, rules}
 use Rattle.std.specs.Int.{is_in_range}
 use Rattle.std.proofs.lemmas.Bool.{cases_eq, cases_lt}
 use Rattle.std.proofs.lemmas.Bool.Decides.{nat_tests}
@@ -135,7 +135,7 @@ letter_own : (c columns : ℕ) (s : State) → IsHigh c → 0 < columns → alon
 letter_own c columns s h some own quiet first total r reads = adds c total columns s _ (letter_step c columns first total s r h some own reads) quiet
 
 mark_own : (c : ℕ) → IsHigh c → alone false c ≡ (0, plain) → may_join_lam c ≡ true → TakesColumns c 0
-mark_own c h own joins first total (t, u) reads = by reads.counted reads.quiet
+mark_own c h own joins first total (t, u) reads = search (rules, by, by_lamed, stays, at_state, lamed_kept, adds, lamed_step, own)
   where
     by_lamed : (b : Bool) → is_ligature_transparent c ≡ b → t ≡ total → u ≡ before Lamed → Reads c (total + 0) (step false c (t, u))
     by_lamed true skips counted is = stays c total (before Lamed) _ (at_state c t total u _ counted is ∙ lamed_kept c total h skips) (AtLamed refl)
@@ -259,7 +259,7 @@ lam_alef total = refl
 
 -- where no alef may follow it has its column
 pub of_lam : (first total : ℕ) (r : Reading) → may_join_lam first ≡ false → Reads first total r → Reads 0x644 (total + 1) (step false 0x644 r)
-of_lam first total (t, u) apart reads = by reads.counted reads.quiet
+of_lam first total (t, u) apart reads = search (rules, by, adds, at_state, lam_plain, lam_lamed)
   where
     by : t ≡ total → IsQuiet first u → Reads 0x644 (total + 1) (step false 0x644 (t, u))
     by counted (Plain is) = adds 0x644 total 1 plain _ (at_state 0x644 t total u _ counted is ∙ lam_plain total) (Plain refl)

@@ -1,5 +1,5 @@
 -- The widths of texts that are joined with separators between them.
-use Rattle.std.proofs.Common.{◌≡◌, ◌∙◌, ap, sym, refl, ℕ, zero, suc, ◌+◌, ◌-◌, ◌<◌, false, List, [], ◌∷◌, ◌++◌, append-nil, append_assoc, arith, chars, replicate}
+use Rattle.std.proofs.Common.{◌≡◌, ◌∙◌, ap, sym, refl, ℕ, zero, suc, ◌+◌, ◌<◌, false, List, [], ◌∷◌, ◌++◌, append-nil, append_assoc, arith, chars, replicate}
 use Rattle.std.specs.Prelude.{IsUtf8}
 use Rattle.std.specs.Str.{drop_trailing_whitespace, encode_utf8_all, trim, trim_end, trim_start}
 use Rattle.unicode_width.specs.Width.{str_width}

@@ -1,5 +1,5 @@
 -- From the mask of one load of bytes to how many of them pass a test, from the front on.
-use Rattle.std.proofs.Common.{◌≡◌, ◌+◌, ◌<◌, ◌≤◌, ◌%◌, ◌^◌, ℕ, zero, suc, List, [], ◌∷◌, Bool, true, false, not, cond, map, length, drop, get_or, Fits, w8, refl, ap, ap₂, sym, subst, ◌∙◌, arith}
+use Rattle.std.proofs.Common.{◌≡◌, ◌+◌, ◌<◌, ◌≤◌, ◌%◌, ◌^◌, ℕ, zero, suc, List, [], ◌∷◌, Bool, true, false, not, cond, map, length, drop, get_or, Fits, w8, refl, ap, ap₂, sym, subst, ◌∙◌, arith, rules}
 use Rattle.std.specs.List.{prefix_len}
 use Rattle.std.proofs.lemmas.Bool.{agree_below, agree_below_at, cond-true, cond-false, eq-eqb, ne_eqb}
 use Rattle.std.proofs.lemmas.List.{length-map, length-drop, take_all, take-append-drop, drop-drop}
@@ -73,7 +73,7 @@ counted_past q bytes i n r room is all so_far =
 passed_over : (q : ℕ → Bool) (j : ℕ) (bytes : List ℕ) → j ≤ prefix_len q bytes → j + prefix_len q (drop j bytes) ≡ prefix_len q bytes
 passed_over q zero bytes h = omega arith
 passed_over q (suc j) [] h = absurd (omega arith)
-passed_over q (suc j) (b ∷ bytes) h = by_first (q b) h (passed_over q j bytes)
+passed_over q (suc j) (b ∷ bytes) h = search (rules, by_first, passed_over q j bytes)
   where
     by_first : (v : Bool) → suc j ≤ cond v (1 + prefix_len q bytes) 0 → (j ≤ prefix_len q bytes → j + prefix_len q (drop j bytes) ≡ prefix_len q bytes) → suc j + prefix_len q (drop j bytes) ≡ cond v (1 + prefix_len q bytes) 0
     by_first true h over = let rest = over (omega arith) in omega arith

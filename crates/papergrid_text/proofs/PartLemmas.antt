@@ -1,5 +1,5 @@
 -- What the parts are by `unicode_width`.
-use Rattle.std.proofs.Common.{◌≡◌, ℕ, true, List, [], ◌∷◌, Some, refl, arith}
+use Rattle.std.proofs.Common.{◌≡◌, ℕ, true, List, [], ◌∷◌, Some, refl, arith, rules}
 use Rattle.std.specs.Int.{is_in_range}
 use Rattle.std.proofs.lemmas.Bool.Decides.{nat_tests}
 use Rattle.ucd_table.specs.Rows.{Range, in_ranges}
@@ -43,7 +43,7 @@ pictograph_in c h = grind (arith, nat_tests)
 
 -- their kind
 pub kind_pictograph : (c : ℕ) → is_pictograph c ≡ true → kind c ≡ kinds.Emoji
-kind_pictograph c h = emoji_from (kind c) (kind_in Pictographs c (pictograph_in c h))
+kind_pictograph c h = search (rules, emoji_from, kind_in, Pictographs, pictograph_in, has_kind)
   where
     emoji_from : (k : Kind) → has_kind Pictographs k ≡ true → k ≡ kinds.Emoji
     emoji_from k h = grind arith

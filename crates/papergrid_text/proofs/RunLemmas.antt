@@ -1,5 +1,5 @@
 -- Runs of printable ASCII within a text: what stands before them and what stands after them add up.
-use Rattle.std.proofs.Common.{◌≡◌, ◌≢◌, ℕ, zero, suc, ◌+◌, Bool, true, false, not, ◌&&◌, cond, List, [], ◌∷◌, ◌++◌, ◌<◌, ◌==◌, nat_le, length, replicate, get_or, take, drop, chars, IsUtf8, encode_utf8_all, refl, sym, ap, subst, ◌∙◌, arith, Option, Some, None, zero-add}
+use Rattle.std.proofs.Common.{◌≡◌, ◌≢◌, ℕ, zero, suc, ◌+◌, Bool, true, false, not, ◌&&◌, cond, List, [], ◌∷◌, ◌++◌, ◌<◌, ◌==◌, nat_le, length, replicate, get_or, take, drop, chars, IsUtf8, encode_utf8_all, refl, sym, ap, subst, ◌∙◌, arith, Option, Some, None, zero-add, rules}
 use Rattle.std.specs.Int.{is_in_range}
 use Rattle.std.specs.List.{list_all, prefix_len}
 use Rattle.std.proofs.lemmas.Bool.{and_parts, ne_eqb}
@@ -15,7 +15,7 @@ use Rattle.ucd_emoji.specs.Binary.{is_emoji_variation_base}
 use Rattle.unicode_width.specs.declared.state.State.{State}
 use Rattle.unicode_width.specs.declared.state.Change.{Change}
 use Rattle.unicode_width.specs.Kind.{kind}
-use Rattle.unicode_width.specs.Width.{Reading, before, plain, alone, of_kind, single, added, joined_or, if_kept, is_joined_emoji, is_kept, is_line_feed, is_plain, past_selectors, in_context, past_emoji, step, read_before, str_width}
+use Rattle.unicode_width.specs.Width.{Reading, before, plain, alone, of_kind, single, added, joined_or, if_kept, is_joined_emoji, is_line_feed, is_plain, past_selectors, in_context, past_emoji, step, read_before, str_width}
 use Rattle.unicode_width.proofs.WidthLemmas.{read_before-printable}
 use Rattle.unicode_width.proofs.Rules.{is_simple, str_width-append_simple, str_width-printable}
 use Rattle.unicode_width.proofs.Computing.{unicode_width}
@@ -39,7 +39,7 @@ given : (t : ℕ) (s : State) → s.emoji ≡ false → NoEmoji (t, s)
 given t s h = record { none = h }
 
 kept : (s : State) → s.emoji ≡ false → (if_kept s).emoji ≡ false
-kept s h = kept_if (is_kept s.after) s h
+kept s h = search (rules, kept_if)
   where
     kept_if : (b : Bool) (s : State) → s.emoji ≡ false → (cond b s plain).emoji ≡ false
     kept_if true s h = h
@@ -116,8 +116,7 @@ read_run [] ys t s printable some read none = absurd (omega arith)
 read_run (c ∷ []) ys t s printable some read none = grind (arith, and_parts, step_run, none)
 read_run (c ∷ d ∷ run) ys t s printable some read none =
     let parts = and_parts (is_in_range 0x20 0x7E c) (list_all (is_in_range 0x20 0x7E) (d ∷ run)) printable in
-    ap (step false c) (read_run (d ∷ run) ys t s parts.1 (omega arith) read none) ∙ step_run c (t + length (d ∷ run)) plain parts.0 refl
-    ∙ ap (λ n. (n, plain)) (omega arith)
+    grind (arith, read_run (d ∷ run) ys t s parts.1 (omega arith) read none, none, step_run)
 
 -- ---- what is read before a plain state adds up
 
@@ -168,11 +167,7 @@ pub width_parted : (text before after : List ℕ) (count : ℕ) → IsSplitAtRun
     → str_width false (chars text) ≡ str_width false (chars before) + count + str_width false (chars after)
 width_parted text before after count split utf8_before utf8_after =
     let is_ascii = ascii split.run split.printable in
-    ap (λ bytes. str_width false (chars bytes)) split.whole
-    ∙ ap (str_width false) (chars-append before (split.run ++ after) utf8_before
-    ∙ ap (λ cs. chars before ++ cs) (chars-append split.run after (IsUtf8-from_ascii split.run is_ascii) ∙ ap (λ cs. cs ++ chars after) (chars-IsAscii split.run is_ascii)))
-    ∙ width-run (chars before) split.run (chars after) split.printable (omega arith) (unselected (chars after) after (encodes-chars after utf8_after) split.unselected)
-    ∙ ap (λ n. str_width false (chars before) + n + str_width false (chars after)) split.counted
+    grind (arith, chars-append, IsUtf8-from_ascii, chars-IsAscii, width-run, unselected, encodes-chars)
 
 pub split_there : (text : List ℕ) (start n : ℕ) → n ≡ prefix_len (is_in_range 0x20 0x7E) (drop start text) → 0 < n → get_or (drop (start + n) text) 0 0 ≢ 0xEF
     → IsSplitAtRun text (take start text) n (drop (start + n) text)

@@ -1,5 +1,5 @@
 -- Simple characters, and texts of them.
-use Rattle.std.proofs.Common.{◌≡◌, ◌≢◌, ℕ, ◌+◌, ◌*◌, ◌-◌, ◌/◌, ◌%◌, ◌<◌, ◌≤◌, Bool, true, false, List, [], ◌∷◌, ◌++◌, length, get_or, take, drop, encode_utf8, encode_utf8_all, IsUtf8, Option, Some, None, IfSome, refl, sym, ap, ◌∙◌, subst, arith, inl, inr, le-ltb, lt-ltb}
+use Rattle.std.proofs.Common.{◌≡◌, ◌≢◌, ℕ, ◌+◌, ◌*◌, ◌-◌, ◌/◌, ◌%◌, ◌<◌, ◌≤◌, Bool, true, false, List, [], ◌∷◌, ◌++◌, length, get_or, take, drop, encode_utf8, encode_utf8_all, IsUtf8, Option, Some, None, IfSome, refl, sym, ap, ◌∙◌, subst, arith, inl, inr, le-ltb, lt-ltb, rules}
 use Rattle.std.specs.Int.{is_in_range}
 use Rattle.std.specs.List.{list_all, prefix_len}
 use Rattle.std.specs.Str.{IsCharBoundary, chars}
@@ -160,7 +160,7 @@ starts_by text rest c columns count spelled utf8 counted bound reads =
     }
 
 starts : (text rest : List ℕ) (c columns count : ℕ) → text ≡ encode_utf8 c ++ rest → IsUtf8 text → length (encode_utf8 c) ≡ count → columns ≤ count → TakesColumns c columns → IsPiece text columns count
-starts text rest c columns count spelled utf8 counted bound adds = starts_by text rest c columns count spelled utf8 counted bound more
+starts text rest c columns count spelled utf8 counted bound adds = search (rules, starts_by, spelled, counted, more, reads_by, chars_past_char)
   where
     more : (n : ℕ) → ReadsQuietly rest n → ReadsQuietly text (columns + n)
     more n quietly =
@@ -176,7 +176,7 @@ starts_found : (text : List ℕ) (c columns count : ℕ) (Bytes : ℕ → List �
 starts_found text c columns count Bytes start utf8 is bound takes = starts_as text columns count Bytes start utf8 bound (subst (λ c. TakesColumns c columns) (is start.first start.rest start.spelled) takes)
 
 pub starts_ascii : (text : List ℕ) → IsUtf8 text → 0 < length text → is_in_range 0x20 0x7E (get_or text 0 0) ≡ true → IsPiece text 1 1
-starts_ascii text utf8 some h = by (is_of_one text utf8 some (grind (arith, nat_tests)))
+starts_ascii text utf8 some h = search (rules, by, is_of_one, nat_tests, starts_as, of_ascii)
   where
     by : IsOfOne text → IsPiece text 1 1
     by one = starts_as text 1 1 _ one utf8 (omega arith) (of_ascii one.first (ap (is_in_range 0x20 0x7E) (sym one.bytes.lead) ∙ h))
@@ -187,7 +187,7 @@ starts_tab text utf8 some h =
     starts_as text 1 1 _ one utf8 (omega arith) (subst (λ c. TakesColumns c 1) (sym h ∙ one.bytes.lead) of_tab)
 
 pub starts_letter : (text : List ℕ) → IsUtf8 text → is_in_range 0xC3 0xD1 (get_or text 0 0) ≡ true → is_in_range 0xCC 0xCD (get_or text 0 0) ≡ false → IsPiece text 1 2
-starts_letter text utf8 h apart = by (is_of_two text utf8 (grind (arith, nat_tests)))
+starts_letter text utf8 h apart = search (rules, by, is_of_two, nat_tests, letter_of, is_letter)
   where
     letter_of : (c : ℕ) → is_in_range 0xC3 0xD1 (192 + c / 64) ≡ true → is_in_range 0xCC 0xCD (192 + c / 64) ≡ false → is_letter c ≡ true
     letter_of c h apart = grind (arith, nat_tests)
@@ -197,7 +197,7 @@ starts_letter text utf8 h apart = by (is_of_two text utf8 (grind (arith, nat_tes
         starts_as text 1 2 _ two utf8 (omega arith) (of_letter two.first (letter_of two.first (ap (is_in_range 0xC3 0xD1) (sym two.bytes.lead) ∙ h) (ap (is_in_range 0xCC 0xCD) (sym two.bytes.lead) ∙ apart)))
 
 pub starts_ideograph : (text : List ℕ) → IsUtf8 text → is_in_range 0xE4 0xE9 (get_or text 0 0) ≡ true → IsPiece text 2 3
-starts_ideograph text utf8 h = by (is_of_three text utf8 (grind (arith, nat_tests)))
+starts_ideograph text utf8 h = search (rules, by, is_of_three, nat_tests, ideograph_of)
   where
     ideograph_of : (c : ℕ) → is_in_range 0xE4 0xE9 (224 + c / 4096) ≡ true → is_two_columns c ≡ true
     ideograph_of c h = grind (arith, nat_tests)
@@ -208,7 +208,7 @@ starts_ideograph text utf8 h = by (is_of_three text utf8 (grind (arith, nat_test
 -- ---- characters of two bytes
 
 accent_is_of_two : (text : List ℕ) → IsUtf8 text → is_in_range 0xCC 0xCD (get_or text 0 0) ≡ true → IsOfTwo text
-accent_is_of_two text utf8 h = is_of_two text utf8 (accent_lead (get_or text 0 0) h)
+accent_is_of_two text utf8 h = search (rules, is_of_two, accent_lead, nat_tests)
   where
     accent_lead : (b : ℕ) → is_in_range 0xCC 0xCD b ≡ true → is_in_range 0xC2 0xDF b ≡ true
     accent_lead b h = grind (arith, nat_tests)
@@ -317,7 +317,7 @@ piece text after columns count run first utf8 is counted =
 -- ---- letters of Hebrew and Arabic
 
 pub semitic_is_of_two : (text : List ℕ) → IsUtf8 text → is_in_range 0xD7 0xD9 (get_or text 0 0) ≡ true → IsOfTwo text
-semitic_is_of_two text utf8 h = is_of_two text utf8 (semitic_lead (get_or text 0 0) h)
+semitic_is_of_two text utf8 h = search (rules, is_of_two, semitic_lead, nat_tests)
   where
     semitic_lead : (b : ℕ) → is_in_range 0xD7 0xD9 b ≡ true → is_in_range 0xC2 0xDF b ≡ true
     semitic_lead b h = grind (arith, nat_tests)
@@ -343,7 +343,7 @@ cut_lam text utf8 lam = subst (IsCharBoundary text) two_bytes (IsCharBoundary-at
 
 -- a lam before what it cannot join
 lam_alone : (text after : List ℕ) → IsUtf8 text → BeginsWith text 0x644 → after ≡ drop 2 text → may_join_lam (get_or (chars after) 0 0) ≡ false → IsPiece text 1 2
-lam_alone text after utf8 lam is apart = starts_by text lam.0 0x644 1 2 lam.1 utf8 two_bytes (omega arith) more
+lam_alone text after utf8 lam is apart = search (rules, starts_by, two_bytes, more, apart_there, after_lam)
   where
     apart_there : may_join_lam (get_or (chars lam.0) 0 0) ≡ false
     apart_there = subst (λ bs. may_join_lam (get_or (chars bs) 0 0) ≡ false) (is ∙ after_lam text lam) apart
@@ -360,7 +360,7 @@ first_is_low [] utf8 low = omega arith
 first_is_low (b ∷ bs) utf8 low = grind arith
 
 pub lam_at_end : (text after : List ℕ) → IsUtf8 text → BeginsWith text 0x644 → after ≡ drop 2 text → IsUtf8 after → get_or after 0 0 < 0x80 → IsPiece text 1 2
-lam_at_end text after utf8 lam is utf8_after low = lam_alone text after utf8 lam is (apart_from _ (first_is_low after utf8_after low))
+lam_at_end text after utf8 lam is utf8_after low = search (rules, lam_alone, apart_from, first_is_low, nat_tests)
   where
     apart_from : (c : ℕ) → c < 0x80 → may_join_lam c ≡ false
     apart_from c low = grind (arith, nat_tests)

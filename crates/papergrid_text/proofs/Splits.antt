@@ -45,5 +45,3 @@ is_split text = search (rules, length-slice_split, plain_lines, join_with_byte-s
 
 pub only_split : (text : List ℕ) (parts : List (List ℕ)) → IsLines text parts → parts ≡ split_lines text
 only_split text parts is = sym (split_of_join parts is.some is.plain) ∙ ap split_lines is.joined
-
--- ---- what an iterator that shows its list gives

@@ -89,8 +89,7 @@ module _ {X Y W : Type 0} {into : W → Iter (Vec X Y) → Type 0} {row_into : B
       let rows_are : map (λ x. x.now) gave.rows ≡ items w = lent_drains gave.walk.iterator gave.rows gave.walk.walked ∙ made w gave.walk.iterator gave.walk.made in
       let one : (row : Bor (Vec X Y)) (xs : List (Bor X)) → Gives row_into (iter_steps {A = X}) row xs → map (λ cell. cell.now) xs ≡ row.now.items
       = λ row xs gave. lent_drains gave.iterator xs gave.walked ∙ row_made row gave.iterator gave.made in
-      map_from_zip (Gives row_into (iter_steps {A = X})) (map (λ cell. cell.now)) (λ row. row.now.items) one gave.rows cells gave.each
-      ∙ sym (map_twice (λ x. x.now) (λ row. row.items) gave.rows) ∙ ap (map (λ row. row.items)) rows_are
+      grind (arith, map_from_zip, one, map_twice, rows_are)
 
 module _ {X Z : Type 0} {into : Vec (Bor (List X)) Z → IntoIter (Bor (List X)) Z → Type 0} {row_into : Bor (List X) → Iter X → Type 0} where
   pub slice_rows : (v : Vec (Bor (List X)) Z) (cells : List (List (Bor X))) → GivesRows into (into_iter_steps {X = Bor (List X)} {Z = Z}) row_into (iter_steps {A = X}) v cells

@@ -1,5 +1,5 @@
 -- The sums over the listed cells tell whether the positions are those of a certificate.
-use Rattle.std.proofs.Common.{◌≡◌, ℕ, zero, suc, ◌+◌, ◌*◌, ◌<◌, ◌≤◌, ◌≢◌, ◌==◌, ◌&&◌, Bool, true, false, cond, inl, inr, List, [], ◌∷◌, length, map, get_or, sum, sum_by, refl, sym, ap, ap₂, ◌∙◌, subst, subst₂, arith, eqb, eqb-true, eq-eqb}
+use Rattle.std.proofs.Common.{◌≡◌, ℕ, zero, suc, ◌+◌, ◌*◌, ◌<◌, ◌≤◌, ◌≢◌, ◌==◌, ◌&&◌, Bool, true, false, cond, inl, inr, List, [], ◌∷◌, length, map, get_or, sum_by, refl, sym, ap, ap₂, ◌∙◌, subst, subst₂, arith, eqb, eqb-true, eq-eqb}
 use Rattle.std.specs.Prelude.{All, AllPairs, Contains, ⊤}
 use Rattle.std.specs.List.{AllByRecursion}
 use Rattle.std.proofs.Math.Nat.{mul-zero}
@@ -204,7 +204,6 @@ module _ (line : ℕ → Bool) (sizes : List ℕ) (positions : List Position) (d
       let visible : All (Contains ds) listed.0 = All-from_recursion (Contains ds) listed.0 listed.2 in
       let minimums : checked.minimums ≡ sum_by (λ d. d.minimum) listed.0 = all.minimums ∙ listed-at (λ d. d.minimum) listed.0 listed.1 listed.2 in
       let inner : checked.inner ≡ sum_by (inner_lines line) listed.0 = all.inner ∙ listed-at (inner_lines line) listed.0 listed.1 listed.2 in
-      let adds : checked.minimums ≡ sum sizes + checked.inner = agree.adds_up in
       record {
         none_out = first_out-none (length sizes) ds (recursion_from_All (IsInTable (length sizes)) ds table);
         fits = record { one_each = refl; room = all.room };
@@ -228,13 +227,7 @@ module _ (line : ℕ → Bool) (sizes : List ℕ) (positions : List Position) (d
       let cells : AllByRecursion (Contains ds) a.cells = recursion_from_All (Contains ds) a.cells a.certificate.visible in
       let minimums : checked.minimums ≡ sum_by (λ d. d.minimum) a.cells = all.minimums ∙ listed-at (λ d. d.minimum) a.cells a.at_positions cells in
       let inner : checked.inner ≡ sum_by (inner_lines line) a.cells = all.inner ∙ listed-at (inner_lines line) a.cells a.at_positions cells in
-      let adds : sum_by (λ d. d.minimum) a.cells ≡ sum sizes + sum_by (inner_lines line) a.cells = a.certificate.adds_up in
-      let count : checked.found ≡ length a.cells = all.found ∙ listed-at (λ _. 1) a.cells a.at_positions cells ∙ sum_by-ones a.cells in
-      record {
-        holds = so;
-        found = count ∙ sym (length-map a.cells position_of) ∙ ap length a.at_positions;
-        adds_up = omega arith;
-      }
+      grind (arith, so, all.found ∙ listed-at (λ _. 1) a.cells a.at_positions cells ∙ sum_by-ones a.cells, length-map)
 
   pub disjoint-from_accepted : IsAccepted (problem_of_demands line (length sizes) ds) sizes positions → AllPairs (AreDisjointAt direction span_of) positions
   disjoint-from_accepted a =

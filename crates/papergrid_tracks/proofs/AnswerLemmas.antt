@@ -1,5 +1,5 @@
 -- What is made of the kept cells is the answer for the problem.
-use Rattle.std.proofs.Common.{◌≡◌, ℕ, ◌+◌, ◌-◌, ◌<◌, ◌≤◌, ◌∙◌, min, Bool, true, List, length, get_or, fold, sum, take, map, sym, ap, subst, arith}
+use Rattle.std.proofs.Common.{◌≡◌, ℕ, ◌+◌, ◌-◌, ◌<◌, ◌≤◌, ◌∙◌, min, Bool, true, List, length, get_or, fold, sum, take, map, sym, ap, subst, arith, rules}
 use Rattle.std.specs.Prelude.{All, None, Option, Some, Vec}
 use Rattle.std.proofs.lemmas.List.FromFn.{fill_by_all, get_or-map-range_with_len, length-map-range_with_len}
 use Rattle.std.specs.declared.alloc.Global.{Global}
@@ -39,9 +39,7 @@ pub AreTooLargeBy-large : (sizing : Sizing) (n : ℕ) (kept : Demands) (demands 
     first_out n kept.rest.items ≡ None → kept.is_large ≡ true → AreTooLargeBy sizing (problem_of_demands line n demands)
 AreTooLargeBy-large ByShares n kept demands is line inside large = AreSizesTooLarge-large n kept demands is line inside large
 AreTooLargeBy-large Least n kept demands is line inside large =
-    let table : All (IsInTable n) demands = table_demands n kept demands is inside in
-    AreLeastTooLarge-by_all (problem_of_demands line n demands) table (out_kept n kept demands is ∙ inside)
-    (λ other fits. large_any line n other demands (sym is.held.large ∙ large) table fits.room)
+    grind (arith, AreLeastTooLarge-by_all, table_demands n kept demands is inside, out_kept, large_any)
 
 -- where the boundaries agree, so do the sizes between them
 between-same : (n : ℕ) (f g : ℕ → ℕ) → ((i : ℕ) → i ≤ n → f i ≡ g i) → sizes_between n f ≡ sizes_between n g
@@ -83,8 +81,7 @@ module _ {line : ℕ → Bool} {n : ℕ} {kept : Demands} {demands : List Demand
           let b : sum (take n other) ≡ sum other = ap sum (take_whole n other fits.one_each) in
           let c : all_lines drawn (length base) ≡ all_lines drawn n = ap (all_lines drawn) begun.many in
           let d : all_lines drawn n ≡ all_lines line n = all_drawn in
-          let all : 18446744073709551616 ≤ sum other + all_lines line n = omega arith in
-          all
+          (omega arith)
 
   pub IsRefused-refuses : (e : LayoutError) → Refuses ((boundary : ℕ → ℕ) → AreLaid base asking boundary → 18446744073709551616 ≤ boundary (length base) + all_lines drawn (length base)) e → IsRefused Least (problem_of_demands line n demands) e
   IsRefused-refuses (OutOfTable position) refused = absurd refused
@@ -110,18 +107,7 @@ module _ {line : ℕ → Bool} {n : ℕ} {kept : Demands} {demands : List Demand
 
     exact : (sizes : List ℕ) → sizes ≡ sizes_between (length base) (λ i. min (boundaries_of (fold (grown_sizes drawn) base (by_span (length base) kept.rest.items)) i) (get_or limits.highest_position.items i 0)) →
         sizes ≡ least_of (problem_of_demands line n demands)
-    exact sizes e =
-        e
-        ∙ ap (λ k. sizes_between k (λ i. min (boundaries_of (fold (grown_sizes drawn) base (by_span (length base) kept.rest.items)) i) (get_or limits.highest_position.items i 0))) begun.many
-        ∙ between-same n (λ i. min (boundaries_of (fold (grown_sizes drawn) base (by_span (length base) kept.rest.items)) i) (get_or limits.highest_position.items i 0))
-        (λ i. min (boundaries_of (sizes_of (problem_of_demands line n demands)) i) (highest_position (net_minimum line) n demands i)) same
-      where
-        same : (i : ℕ) → i ≤ n → min (boundaries_of (fold (grown_sizes drawn) base (by_span (length base) kept.rest.items)) i) (get_or limits.highest_position.items i 0) ≡
-            min (boundaries_of (sizes_of (problem_of_demands line n demands)) i) (highest_position (net_minimum line) n demands i)
-        same i l =
-            let a : boundaries_of (fold (grown_sizes drawn) base (by_span (length base) kept.rest.items)) i ≡ boundaries_of (sizes_of (problem_of_demands line n demands)) i = ap (λ xs. boundaries_of xs i) shares in
-            let b : get_or limits.highest_position.items i 0 ≡ highest_position (net_minimum line) n demands i = highest_at i l in
-            omega arith
+    exact sizes e = search (rules, between-same, highest_position, shares, highest_at)
 
     module _ (sizes : List ℕ) (e : sizes ≡ sizes_between (length base) (λ i. min (boundaries_of (fold (grown_sizes drawn) base (by_span (length base) kept.rest.items)) i) (get_or limits.highest_position.items i 0))) where
       pub total-made : limits.total ≡ total_of (problem_of_demands line n demands) sizes
@@ -129,10 +115,8 @@ module _ {line : ℕ → Bool} {n : ℕ} {kept : Demands} {demands : List Demand
           let a : sum sizes ≡ sum (least_of (problem_of_demands line n demands)) = ap sum (exact sizes e) in
           let b : sum (least_of (problem_of_demands line n demands)) ≡ lowest_position (net_minimum line) demands n = total-least_of (problem_of_demands line n demands) table in
           let c : get_or limits.lowest_position.items (length base) 0 ≡ lowest_position (net_minimum line) demands n = total_is in
-          let d : limits.total ≡ get_or limits.lowest_position.items (length base) 0 + all_lines drawn (length base) = are.total in
           let f : all_lines drawn (length base) ≡ all_lines line n = ap (all_lines drawn) begun.many ∙ all_drawn in
-          let all : limits.total ≡ sum sizes + all_lines line n = omega arith in
-          all
+          (omega arith)
 
       fits-made : total_of (problem_of_demands line n demands) (least_of (problem_of_demands line n demands)) < 18446744073709551616
       fits-made = subst (λ k. k < 18446744073709551616) (total-made ∙ ap (total_of (problem_of_demands line n demands)) (exact sizes e)) are.fits

@@ -108,8 +108,7 @@ module _ (base : List ℕ) (cells : List Demand) (table : All (IsInTable (length
     LaidFrom-cell = record {
       one_more = length-set mid (get_or cells k no_cell).start top ∙ same ∙ laid_from.one_more;
       within = let le : end_of (get_or cells k no_cell) ≤ length base = within in omega arith;
-      last =
-          elsewhere (length base) (omega (arith, within, one)) ∙ after (length base) laid_from.within ∙ laid_from.last;
+      last = elsewhere (length base) (omega (arith, within, one)) ∙ after (length base) laid_from.within ∙ laid_from.last;
       steps = steps-moved;
       apart = apart-moved;
       earlier = λ j d from l. let s : (get_or cells j d).start ≤ (get_or cells k d).start = sorted k j d (omega arith) l in

@@ -49,7 +49,6 @@ bound-least_sizes line n demands sizes table i l below =
   where
     asked-below : (k : ℕ) (d : Demand) → k < length demands → IsInTable n (get_or demands k d) → (get_or demands k d).start ≡ i → net_minimum line (get_or demands k d) ≤ top_minimum demands i
     asked-below k d l cell here =
-        let one : 1 ≤ (get_or demands k d).span = cell.covers_one in
         let a : (get_or demands k d).minimum ≤ top_minimum demands i =
         minimum-below_greatest (λ d. holds d i) demands (get_or demands k d) (Contains-get_or demands k d l) (holds-inside (get_or demands k d) i (omega arith) (omega arith)) in
         omega arith

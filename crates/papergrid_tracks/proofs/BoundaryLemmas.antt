@@ -1,5 +1,5 @@
 -- Sizes that fit, and boundaries.
-use Rattle.std.proofs.Common.{◌≡◌, ℕ, zero, suc, ◌+◌, ◌-◌, ◌<◌, ◌≤◌, min, Bool, List, length, get_or, take, sum, ap, arith, add-zero}
+use Rattle.std.proofs.Common.{◌≡◌, ℕ, zero, suc, ◌+◌, ◌-◌, ◌<◌, ◌≤◌, min, Bool, List, length, get_or, take, sum, ap, arith, add-zero, rules}
 use Rattle.std.specs.Prelude.{All}
 use Rattle.std.proofs.lemmas.List.FromFn.{get_or-map-range_with_len, length-map-range_with_len}
 use Rattle.std.proofs.lemmas.Grind.{common_steps}
@@ -58,10 +58,7 @@ sum-sizes_between n boundary rise =
     omega (arith, boundaries-sizes_between n boundary rise n (omega arith), sum-upto (sizes_between n boundary))
 
 pub Fits-sizes_between : (line : ℕ → Bool) (n : ℕ) (demands : List Demand) (boundary : ℕ → ℕ) → All (IsInTable n) demands → AreBoundaries (net_minimum line) n demands boundary → Fits (problem_of_demands line n demands) (sizes_between n boundary)
-Fits-sizes_between line n demands boundary table are = record {
-  one_each = length-sizes_between n boundary;
-  room = λ k d l. room_of (get_or demands k d) (table k d l) (are.apart k d l);
-}
+Fits-sizes_between line n demands boundary table are = search (rules, length-sizes_between, room_of, boundaries-apart, boundaries-sizes_between)
   where
     room_of : (d : Demand) → IsInTable n d → boundary d.start + net_minimum line d ≤ boundary (end_of d) → HasRoom line (sizes_between n boundary) d
     room_of d cell apart =

@@ -82,10 +82,8 @@ point-guess direction positions start e rising l is = (
   (λ k d le lk.
       let there : along direction (get_or positions start d) ≡ start = ap (along direction) (get_or_default positions start d e l) ∙ is in
       elim (cases_eq k start) [
-        | inl same ↦
-            le-ltb _ _ (omega (arith, ap (λ j. along direction (get_or positions j d)) same ∙ there))
-        | inr ne ↦
-            le-ltb _ _ (omega (arith, rising start k d (omega arith) lk, there))
+        | inl same ↦ grind (arith, le-ltb)
+        | inr ne ↦ grind (arith, le-ltb)
       ]),
 )
 

@@ -1,5 +1,5 @@
 -- What a certificate goes by.
-use Rattle.std.proofs.Common.{◌≡◌, ◌<◌, ◌≤◌, false, List, length, arith, refl, sym, subst, ap, ◌∙◌, inl, inr}
+use Rattle.std.proofs.Common.{◌≡◌, ◌<◌, false, List, arith, refl, sym, ap, ◌∙◌, inl, inr}
 use Rattle.std.specs.Prelude.{All, Some, map}
 use Rattle.std.proofs.lemmas.Bool.{cases_Bool}
 use Rattle.std.proofs.lemmas.List.Elements.{recursion_from_All}
@@ -27,13 +27,7 @@ module _ (problem : Problem) (table : All (IsInTable problem.count) problem.dema
       AreCertifying problem positions
   AreChosen-from_laminar positions e laminar =
       let disjoint = IsLaminar-from_laminar problem.count problem.demands table laminar in
-      subst (AreCertifying problem) (sym e) record {
-        none_out = first_out-none problem.count problem.demands (recursion_from_All (IsInTable problem.count) problem.demands table);
-        total = total;
-        laminar = disjoint;
-        exact = refl;
-        certificate = IsCertificate-certificate_cells_of problem table disjoint;
-      }
+      grind (arith, first_out-none, recursion_from_All, IsCertificate-certificate_cells_of)
 
   pub NoneCertify-unless_laminar : (IsLaminarInOrder (by_span problem.count problem.demands) → ⊥) → NoneCertify problem
   NoneCertify-unless_laminar none = record {
@@ -62,9 +56,7 @@ module _ (problem : Problem) (kept : Demands) (is : AreGathered problem.count ke
   -- what is kept by number is exact
   pub AreExact-settled : AreExact problem.demands (growing_cells_of problem) (sizes_of problem) kept.single_span.items
   AreExact-settled i l out some =
-      let many : length (sizes_of problem) ≡ problem.count = (Fits-sizes_of problem table).one_each in
-      let inside : i < problem.count = omega (arith, l, many) in
-      let le : problem.count ≤ is.limit = is.from_limit in
+      let inside : i < problem.count = omega (arith, l, (Fits-sizes_of problem table).one_each) in
       exact_single-first i problem.demands (sizes_of problem)
       (base-not_covered problem.line problem.count problem.demands (by_span problem.count problem.demands) table (TakesAll-by_span problem.count problem.demands table) i inside out) some
-      ∙ ap Some (sym (is.held.single_span small-settled i (omega (arith, inside, le))))
+      ∙ ap Some (sym (is.held.single_span small-settled i (omega (arith, inside))))

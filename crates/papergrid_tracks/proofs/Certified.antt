@@ -1,5 +1,5 @@
 -- The cells of the certificate certify the sizes, so the sizes are least.
-use Rattle.std.proofs.Common.{◌≡◌, ℕ, ◌+◌, ◌-◌, ◌<◌, ◌≤◌, ◌≢◌, Bool, true, false, ◌&&◌, ◌==◌, ◌⊎◌, inl, inr, List, [], ◌∷◌, length, get_or, sum, sum_by, refl, sym, ap, ◌∙◌, subst, arith, eqb, ne_eqb, eqb-true, Option, Some, None, rules}
+use Rattle.std.proofs.Common.{◌≡◌, ℕ, ◌+◌, ◌<◌, ◌≤◌, ◌≢◌, Bool, true, false, ◌&&◌, ◌==◌, ◌⊎◌, inl, inr, List, [], ◌∷◌, length, get_or, sum, sum_by, refl, sym, ap, ◌∙◌, subst, arith, eqb, ne_eqb, eqb-true, Option, Some, None, rules}
 use Rattle.std.specs.Prelude.{find, All, Contains}
 use Rattle.std.specs.List.{AllByRecursion, range_with_len}
 use Rattle.std.proofs.lemmas.Bool.{cases_Bool, and_parts, or_parts, or_left, or_right, eqb-false, true≢false}
@@ -120,10 +120,7 @@ module _ (line : ℕ → Bool) (n : ℕ) (demands growing_cells : List Demand) (
   found_single i j d e f s =
       let free : covered (outermost growing_cells) j ≡ false = covered-outermost growing_cells j ∙ s.free in
       let out : holds d j ≡ false = (find-all (λ c. holds c j ≡ false) (λ c. c.start == i) (outermost growing_cells) d (not_covered-each (outermost growing_cells) j free) f).1 in
-      elim (holds_cases d j) [
-        | inl h ↦ absurd (true≢false (sym h.0 ∙ out))
-        | inr h ↦ elim h.1 [ inl x ↦ inr (omega arith) | inr x ↦ inl (omega arith) ]
-      ]
+      grind (arith, holds_cases, true≢false, out)
 
   pair_apart : (i j : ℕ) (d e : Demand) → i < j →
       option_or (find (λ d. d.start == i) (outermost growing_cells)) (single_at demands growing_cells sizes i) ≡ Some d →
@@ -177,8 +174,7 @@ module _ (line : ℕ → Bool) (n : ℕ) (demands growing_cells : List Demand) (
   -- a single cell needs what lies outside of the growing cells there
   single-minimum : (i : ℕ) → i < n → weight (λ d. d.minimum) (single_at demands growing_cells sizes i) ≡ outside (outermost growing_cells) (λ i. get_or sizes i 0) i
   single-minimum i l = elim (cases_Bool (covered growing_cells i)) [
-    | inl t ↦
-        rw (t, (covered-outermost growing_cells i ∙ t)) refl
+    | inl t ↦ grind (arith, covered-outermost)
     | inr f ↦
         rw (covered-outermost growing_cells i ∙ f) (elim (cases_Bool (eqb (get_or sizes i 0) 0)) [
           | inl z ↦ rw (f, z) (sym (eqb-true (get_or sizes i 0) 0 z))
@@ -192,7 +188,7 @@ module _ (line : ℕ → Bool) (n : ℕ) (demands growing_cells : List Demand) (
   ]
 
   single-inner : (i : ℕ) → weight (inner_lines line) (single_at demands growing_cells sizes i) ≡ 0
-  single-inner i = step (single_at demands growing_cells sizes i) refl
+  single-inner i = search (rules, step, weight, single_is)
     where
       step : (o : Option Demand) → single_at demands growing_cells sizes i ≡ o → weight (inner_lines line) o ≡ 0
       step None e = refl
@@ -223,10 +219,8 @@ pub base-not_covered : (line : ℕ → Bool) (n : ℕ) (demands by_span : List D
     covered (growing_demands line (base_sizes n demands) by_span) i ≡ false → get_or (sizes_after line n demands by_span) i 0 ≡ base_size demands i
 base-not_covered line n demands by_span table takes i l f =
     let many : length (base_sizes n demands) ≡ n = length-base_sizes n demands in
-    let table' : AllByRecursion (IsInTable (length (base_sizes n demands))) by_span =
-    recursion_from_All (IsInTable (length (base_sizes n demands))) by_span (table_of_by_span line n demands by_span table takes) in
-    let ones : AllByRecursion (λ d. 1 ≤ d.span) by_span =
-    ByRecursion-weaker (IsInTable (length (base_sizes n demands))) (λ d. 1 ≤ d.span) (λ d t. t.covers_one) by_span table' in
+    let table' : AllByRecursion (IsInTable (length (base_sizes n demands))) by_span = grind (arith, recursion_from_All, table_of_by_span, table) in
+    let ones : AllByRecursion (λ d. 1 ≤ d.span) by_span = grind (arith, ByRecursion-weaker, table') in
     size-not_covered line (base_sizes n demands) by_span i ones (omega arith) f ∙ get_or-base_sizes n demands i l
 
 growing_cells_are : (line : ℕ → Bool) (n : ℕ) (demands by_span : List Demand) → All (IsInTable n) demands → TakesAll demands by_span → IsLaminarInOrder by_span →
@@ -234,8 +228,7 @@ growing_cells_are : (line : ℕ → Bool) (n : ℕ) (demands by_span : List Dema
 growing_cells_are line n demands by_span table takes laminar =
     let many : length (base_sizes n demands) ≡ n = length-base_sizes n demands in
     let cells : AllByRecursion (Contains demands) by_span = recursion_from_All (Contains demands) by_span takes.cells in
-    let table' : AllByRecursion (IsInTable (length (base_sizes n demands))) by_span =
-    recursion_from_All (IsInTable (length (base_sizes n demands))) by_span (table_of_by_span line n demands by_span table takes) in
+    let table' : AllByRecursion (IsInTable (length (base_sizes n demands))) by_span = grind (arith, recursion_from_All, table_of_by_span, table) in
     let table'' : AllByRecursion (IsInTable n) by_span = rw many at table' in
     record {
       many = length-by_span line (base_sizes n demands) by_span ∙ many;

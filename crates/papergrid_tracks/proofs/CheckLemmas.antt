@@ -1,5 +1,5 @@
 -- What a checker goes by: its sums over the listed cells, and the certificate that they make.
-use Rattle.std.proofs.Common.{◌≡◌, ℕ, zero, suc, ◌+◌, ◌-◌, ◌*◌, ◌<◌, ◌≤◌, Bool, true, false, cond, inl, inr, List, [], ◌∷◌, ◌++◌, length, count_by, drop, drop-cons, get_or, refl, sum, sym, take, ap, ◌∙◌, arith}
+use Rattle.std.proofs.Common.{◌≡◌, ℕ, zero, suc, ◌+◌, ◌-◌, ◌*◌, ◌<◌, ◌≤◌, Bool, true, false, cond, List, [], ◌∷◌, ◌++◌, length, count_by, drop, drop-cons, get_or, refl, sum, sym, take, ap, ◌∙◌, arith, rules}
 use Rattle.std.specs.Prelude.{All}
 use Rattle.std.specs.List.{AllByRecursion, range_with_len}
 use Rattle.std.proofs.lemmas.Bool.{cases_Bool, true≢false, false≢true}
@@ -37,7 +37,7 @@ All_push P ds d all p = All-append P ds (d ∷ []) all (All-cons P d [] p (All-n
 
 -- of all and one more
 All-front : (P : Demand → Type 0) (ds : List Demand) (d : Demand) → All P (ds ++ d ∷ []) → All P ds × P d
-All-front P ds d all = let r = go ds (recursion_from_All P (ds ++ d ∷ []) all) in (All-from_recursion P ds r.0, r.1)
+All-front P ds d all = search (rules, go, recursion_from_All, All-from_recursion)
   where
     go : (ds : List Demand) → AllByRecursion P (ds ++ d ∷ []) → AllByRecursion P ds × P d
     go [] all = (tt, all.0)
@@ -47,14 +47,7 @@ module _ (line : ℕ → Bool) (sizes : List ℕ) (positions : List Position) (d
     (h : Checks line sizes positions direction span_of old ds)
     (ranged : d ≡ demand_of direction (position_of d) (span_of (position_of d)) d.minimum) (one : 1 ≤ d.span) where
   CanHold-front : CanHold line sizes positions (ds ++ d ∷ []) → CanHold line sizes positions ds
-  CanHold-front can =
-      let e : all_listed (λ _. 1) positions (ds ++ d ∷ []) ≡ all_listed (λ _. 1) positions ds + 1 * times_listed positions d = all_listed_push (λ _. 1) positions ds d in
-      let few : all_listed (λ _. 1) positions (ds ++ d ∷ []) ≤ length positions = can.few in
-      record {
-        table = (All-front (λ e. end_of e ≤ length sizes) ds d can.table).0;
-        room = (All-front (HasRoom line sizes) ds d can.room).0;
-        few = omega arith;
-      }
+  CanHold-front can = grind (arith, All-front, all_listed_push (λ _. 1) positions ds d)
 
   -- the cell has room, and does not make more listed cells than there are positions
   pub Checks-more : old.holds ≡ true → end_of d ≤ length sizes → HasRoom line sizes d → old.found + times_listed positions d ≤ length positions → d.minimum ≤ 73786976294838206464 → inner_lines line d ≤ 18446744073709551616 →
@@ -68,7 +61,6 @@ module _ (line : ℕ → Bool) (sizes : List ℕ) (positions : List Position) (d
       let inner : old.inner ≡ all_listed (inner_lines line) positions ds = all.inner in
       let n : all_listed (λ c. c.minimum) positions (ds ++ d ∷ []) ≡ all_listed (λ c. c.minimum) positions ds + d.minimum * times_listed positions d = all_listed_push (λ c. c.minimum) positions ds d in
       let i : all_listed (inner_lines line) positions (ds ++ d ∷ []) ≡ all_listed (inner_lines line) positions ds + inner_lines line d * times_listed positions d = all_listed_push (inner_lines line) positions ds d in
-      let nb : old.minimums ≤ 73786976294838206464 * old.found = h.bounded.minimums in
       let ib : old.inner ≤ 18446744073709551616 * old.found = h.bounded.inner in
       let nm : d.minimum * times_listed positions d ≤ 73786976294838206464 * times_listed positions d = mul-le-mul_right (times_listed positions d) minimum_small in
       let im : inner_lines line d * times_listed positions d ≤ 18446744073709551616 * times_listed positions d = mul-le-mul_right (times_listed positions d) inner_small in
@@ -93,10 +85,7 @@ module _ (line : ℕ → Bool) (sizes : List ℕ) (positions : List Position) (d
     ranged = All_push (λ c. c ≡ demand_of direction (position_of c) (span_of (position_of c)) c.minimum) ds d h.ranged ranged;
     spans = All_push (λ c. 1 ≤ c.span) ds d h.spans one;
     holds = λ so. absurd (false≢true so);
-    fails = λ so can. elim (cases_Bool old.holds) [
-      | inl t ↦ why t can
-      | inr other ↦ h.fails other (CanHold-front can)
-    ];
+    fails = grind (arith, cases_Bool old.holds, CanHold-front);
     bounded = record { few = h.bounded.few; minimums = h.bounded.minimums; inner = h.bounded.inner };
   }
 
@@ -108,11 +97,7 @@ count_by-le : (line : ℕ → Bool) (a m : ℕ) → count_by line (range_with_le
 count_by-le line a zero = omega arith
 count_by-le line a (suc m) =
     let ih : count_by line (range_with_len (a + 1) m) ≤ m = count_by-le line (a + 1) m in
-    let x : count_by line (range_with_len a (suc m)) ≡ cond (line a) 1 0 + count_by line (range_with_len (a + 1) m) = sum_by-cons (λ j. cond (line j) 1 0) a (range_with_len (a + 1) m) in
-    elim (cases_Bool (line a)) [
-      | inl t ↦ let x' : count_by line (range_with_len a (suc m)) ≡ 1 + count_by line (range_with_len (a + 1) m) = rw t at x in omega arith
-      | inr f ↦ let x' : count_by line (range_with_len a (suc m)) ≡ 0 + count_by line (range_with_len (a + 1) m) = rw f at x in omega arith
-    ]
+    grind (arith, cases_Bool (line a), sum_by-cons (λ j. cond (line j) 1 0) a (range_with_len (a + 1) m))
 
 -- a range has no more inner lines than numbers
 pub inner_lines-span : (line : ℕ → Bool) (d : Demand) → inner_lines line d ≤ d.span
@@ -122,7 +107,7 @@ inner_lines-span line d = let le : inner_lines line d ≤ d.span - 1 = count_by-
 
 -- the first size of a range is a part of its sum
 pub first_of_range : (sizes : List ℕ) (d : Demand) → 1 ≤ d.span → d.start < length sizes → get_or sizes d.start 0 ≤ range_sum sizes d
-first_of_range sizes d one l = go d.span one
+first_of_range sizes d one l = search (rules, go, drop-cons, sum_by-cons)
   where
     go : (n : ℕ) → 1 ≤ n → get_or sizes d.start 0 ≤ sum (take n (drop d.start sizes))
     go zero one = absurd (omega arith)

@@ -1,5 +1,5 @@
 -- Sums over lists that are made by `filter_map` and `find`.
-use Rattle.std.proofs.Common.{◌≡◌, ℕ, zero, suc, ◌+◌, ◌<◌, ◌≤◌, ◌≢◌, max, Bool, true, false, cond, ◌&&◌, ◌==◌, inl, inr, List, [], ◌∷◌, sum_by, refl, ap, arith, eqb, eq-eqb, ne_eqb, Option, Some, None, subst}
+use Rattle.std.proofs.Common.{◌≡◌, ℕ, zero, suc, ◌+◌, ◌<◌, ◌≤◌, max, Bool, true, false, cond, ◌&&◌, ◌==◌, inl, inr, List, [], ◌∷◌, sum_by, refl, ap, arith, eqb, eq-eqb, ne_eqb, Option, Some, None, rules}
 use Rattle.std.specs.Prelude.{find, filter_map}
 use Rattle.std.specs.List.{AllByRecursion, range_with_len, cons_option}
 use Rattle.std.proofs.lemmas.Bool.{cases_Bool, cases_eq, and_from, and_left, and_right}
@@ -37,7 +37,7 @@ sum_by-filter_map w h n = grind (arith, sum_by-filter_map_from, upto-ext)
 -- what holds of each cell found holds of the list made of them
 pub filter_map-all : (P : Demand → Type 0) (h : ℕ → Option Demand) (is : List ℕ) → ((i : ℕ) (d : Demand) → h i ≡ Some d → P d) → AllByRecursion P (filter_map h is)
 filter_map-all P h [] each = tt
-filter_map-all P h (i ∷ is) each = step (filter_map-all P h is each) (h i) refl
+filter_map-all P h (i ∷ is) each = search (rules, step, filter_map-all P h is each)
   where
     step : AllByRecursion P (filter_map h is) → (o : Option Demand) → h i ≡ o → AllByRecursion P (cons_option o (filter_map h is))
     step rest None e = rest
@@ -66,14 +66,9 @@ ArePairwiseDisjoint-filter_map h a (suc n) each = step (ArePairwiseDisjoint-filt
 
 -- what `find` finds passes the test, and is in the list
 pub find-all : (P : Demand → Type 0) (test : Demand → Bool) (ds : List Demand) (d : Demand) → AllByRecursion P ds → find test ds ≡ Some d → (test d ≡ true) × P d
-find-all P test [] d all e = absurd (none_some e)
-  where
-    none_some : None ≡ Some d → ⊥
-    none_some e = cc
+find-all P test [] d all e = grind arith
 find-all P test (x ∷ ds) d all e = elim (cases_Bool (test x)) [
-  | inl t ↦
-      let same : x ≡ d = cc in
-      subst (λ y. (test y ≡ true) × P y) same (t, all.0)
+  | inl t ↦ grind arith
   | inr f ↦ find-all P test ds d all.1 (rw f at e)
 ]
 
@@ -85,9 +80,7 @@ find-none test (d ∷ ds) all = rw all.0 (find-none test ds all.1)
 pub upto-single : (s v n : ℕ) → s < n → upto (λ i. cond (eqb s i) v 0) n ≡ v
 upto-single s v zero l = absurd (omega arith)
 upto-single s v (suc n) l = elim (cases_eq s n) [
-  | inl e ↦
-      let z = upto-zero (λ i. cond (eqb s i) v 0) n (λ i l'. let ne : s ≢ i = omega arith in rw (ne_eqb s i ne) refl) in
-      rw (eq-eqb s n e) (omega arith)
+  | inl e ↦ grind (arith, upto-zero, eq-eqb)
   | inr ne ↦
       rw (ne_eqb s n ne) (omega (arith, upto-single s v n (omega arith)))
 ]

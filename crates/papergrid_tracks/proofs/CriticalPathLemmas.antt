@@ -1,5 +1,5 @@
 -- The cells that are tight at the lowest positions of the boundaries are a certificate of the least total.
-use Rattle.std.proofs.Common.{◌≡◌, ℕ, zero, suc, ◌+◌, ◌-◌, ◌<◌, ◌≤◌, ◌≢◌, max, Bool, true, false, ◌&&◌, ◌==◌, inl, inr, List, [], ◌∷◌, length, get_or, sum, sum_by, refl, sym, ◌∙◌, arith, Option, Some, None, eqb-true, eq-eqb, ne_eqb}
+use Rattle.std.proofs.Common.{◌≡◌, ℕ, zero, suc, ◌+◌, ◌-◌, ◌<◌, ◌≤◌, max, Bool, true, false, ◌&&◌, ◌==◌, inl, inr, List, [], ◌∷◌, length, get_or, sum, sum_by, refl, sym, ◌∙◌, arith, Option, Some, None, eqb-true, eq-eqb, ne_eqb, rules}
 use Rattle.std.specs.Prelude.{All, AllPairs, Contains, find, if◌then◌else◌, reverse}
 use Rattle.std.specs.List.{AllByRecursion}
 use Rattle.std.proofs.lemmas.Bool.{cases_Bool, cases_eq, and_parts, and_from, true≢false}
@@ -75,7 +75,6 @@ module _ (asks : Demand → ℕ) (ds : List Demand) (n : ℕ) (table : All (IsIn
   -- a boundary past the one before has a tight cell
   pub tight_cell-none : (i : ℕ) → lowest_position asks ds i < lowest_position asks ds (suc i) → tight_cell asks ds (suc i) ≡ None → ⊥
   tight_cell-none i past e =
-      let m : ℕ = lowest_position asks ds (suc i) - 1 in
       let at : lowest_position asks ds (suc i) ≡ max (lowest_position asks ds i) (pushed_lower_bound asks ds (lowest_position_to asks ds i) (suc i)) = lowest_position_to-at asks ds i in
       let none : All (λ d. is_tight asks (lowest_position asks ds) (suc i) d ≡ false) ds = none-is_tight i e in
       let top : pushed_lower_bound asks ds (lowest_position_to asks ds i) (suc i) ≤ lowest_position asks ds (suc i) = omega arith in
@@ -87,7 +86,6 @@ module _ (asks : Demand → ℕ) (ds : List Demand) (n : ℕ) (table : All (IsIn
           (end_of (get_or ds k d) == suc i && (lowest_position asks ds (get_or ds k d).start + asks (get_or ds k d) == lowest_position asks ds (suc i))) ≡ false →
           lowest_position_to asks ds i (get_or ds k d).start + asks (get_or ds k d) ≤ lowest_position asks ds (suc i) - 1
       push_at top k d l ends cell no_push =
-          let one : 1 ≤ (get_or ds k d).span = cell.covers_one in
           let a : lowest_position_to asks ds i (get_or ds k d).start + asks (get_or ds k d) ≤ pushed_lower_bound asks ds (lowest_position_to asks ds i) (suc i) = pushed-above asks ds (lowest_position_to asks ds i) (suc i) k d l ends in
           let b : lowest_position_to asks ds i (get_or ds k d).start ≡ lowest_position asks ds (get_or ds k d).start = lowest_position_to-is asks ds i (get_or ds k d).start (omega arith) in
           elim (cases_eq (lowest_position asks ds (get_or ds k d).start + asks (get_or ds k d)) (lowest_position asks ds (suc i))) [
@@ -100,7 +98,6 @@ module _ (asks : Demand → ℕ) (ds : List Demand) (n : ℕ) (table : All (IsIn
   Reaches-step i d cells past is_tight cell reaches =
       let le : lowest_position asks ds d.start ≤ lowest_position asks ds i = lowest_position-monotone asks ds d.start i (omega arith) in
       let a : sum_by asks (d ∷ cells) ≡ asks d + sum_by asks cells = sum_by-cons asks d cells in
-      let b : sum_by asks cells ≡ lowest_position asks ds d.start = reaches.adds_up in
       record {
         adds_up = omega arith;
         before = (omega arith, ByRecursion-weaker (λ c. end_of c ≤ d.start) (λ c. end_of c ≤ suc i) (λ c before. let before' : end_of c ≤ d.start = before in omega arith) cells reaches.before);
@@ -127,8 +124,6 @@ module _ (asks : Demand → ℕ) (ds : List Demand) (n : ℕ) (table : All (IsIn
   Reaches-tight_cell i earlier past reaches (Some d) e =
       let is_tight : IsTight i d = tight_cell-is_tight i d e in
       let cell : IsInTable n d = All-contains (IsInTable n) ds d table is_tight.listed in
-      let one : 1 ≤ d.span = cell.covers_one in
-      let ends : d.start + d.span ≡ suc i = is_tight.ends in
       Reaches-step i d (earlier d.start) past is_tight cell (reaches d.start (omega arith))
 
   Reaches-tight_cells : (steps i : ℕ) → i ≤ steps → Reaches asks ds i (tight_cells asks ds steps i)
@@ -141,8 +136,6 @@ module _ (asks : Demand → ℕ) (ds : List Demand) (n : ℕ) (table : All (IsIn
       elim (cases_eq (lowest_position asks ds (suc i)) (lowest_position asks ds i)) [
         | inl same ↦ rw (e, eq-eqb (lowest_position asks ds (suc i)) (lowest_position asks ds i) same) (Reaches-same i (tight_cells asks ds steps i) same (Reaches-tight_cells steps i (omega arith)))
         | inr ne ↦
-            let ne' : lowest_position asks ds (suc i) ≢ lowest_position asks ds i = ne in
-            let small : i ≤ steps = omega arith in
             rw (e, ne_eqb (lowest_position asks ds (suc i)) (lowest_position asks ds i) ne)
             (Reaches-tight_cell i (tight_cells asks ds steps) (omega arith) (λ j l. Reaches-tight_cells steps j (omega arith)) (tight_cell asks ds (suc i)) refl)
       ]
@@ -155,9 +148,7 @@ minimums-add_up line (d ∷ ds) asking =
     omega (arith, minimums-add_up line ds asking.1, sum_by-cons (net_minimum line) d ds, sum_by-cons (inner_lines line) d ds)
 
 disjoint-reversed : (cells : List Demand) → AllPairs AreDisjoint cells → AllPairs AreDisjoint (reverse cells)
-disjoint-reversed cells disjoint i j d l l' =
-    let many : length (reverse cells) ≡ length cells = length-reverse cells in
-    rw (get_or-reverse cells i d (omega arith), get_or-reverse cells j d (omega arith)) (swapped (get_or cells (length cells - 1 - j) d) (get_or cells (length cells - 1 - i) d) (disjoint (length cells - 1 - j) (length cells - 1 - i) d (omega arith) (omega arith)))
+disjoint-reversed cells disjoint i j d l l' = search (rules, length-reverse, get_or-reverse, swapped, disjoint)
   where
     swapped : (a b : Demand) → AreDisjoint a b → AreDisjoint b a
     swapped a b disjoint' = grind arith
@@ -167,7 +158,6 @@ pub IsCertificate-critical_path : (line : ℕ → Bool) (n : ℕ) (demands : Lis
 IsCertificate-critical_path line n demands sizes table total =
     let moved = IsPermutation-reverse (tight_cells (net_minimum line) demands n n) in
     let reaches : Reaches (net_minimum line) demands n (tight_cells (net_minimum line) demands n n) = Reaches-tight_cells (net_minimum line) demands n table n n (omega arith) in
-    let b : sum_by (net_minimum line) (tight_cells (net_minimum line) demands n n) ≡ lowest_position (net_minimum line) demands n = reaches.adds_up in
     let c : sum_by (λ d. d.minimum) (critical_path (problem_of_demands line n demands)) ≡ sum_by (λ d. d.minimum) (tight_cells (net_minimum line) demands n n) =
     sum_by-IsPermutation (λ d. d.minimum) (tight_cells (net_minimum line) demands n n) (critical_path (problem_of_demands line n demands)) moved in
     let e : sum_by (inner_lines line) (critical_path (problem_of_demands line n demands)) ≡ sum_by (inner_lines line) (tight_cells (net_minimum line) demands n n) =

@@ -1,6 +1,6 @@
 -- What is kept of the demands tells all that is asked of them.
 use Rattle.std.proofs.Common.{◌≡◌, ℕ, zero, suc, ◌+◌, ◌-◌, ◌<◌, ◌≤◌, ◌≢◌, ◌^◌, max, Bool, true, false, ◌&&◌, ◌||◌, ◌==◌, inl, inr, List, [], ◌∷◌, ◌++◌, length, get_or, filter, map, fold, refl, sym, subst, ap, ◌∙◌, arith, eqb, eq-eqb, ne_eqb, eqb-true, ltb, lt-ltb, le-ltb, ltb-true}
-use Rattle.std.specs.Prelude.{All, Some, find, flat_map, if◌then◌else◌, nat_lt, not}
+use Rattle.std.specs.Prelude.{All, Some, find, flat_map, not}
 use Rattle.std.specs.List.{list_any, range_with_len}
 use Rattle.std.proofs.lemmas.Bool.{and_from, and_parts, cases_Bool, cases_lt, lt-leb, true≢false}
 use Rattle.std.proofs.lemmas.Grind.{same_number_lists}
@@ -10,7 +10,7 @@ use Rattle.std.proofs.lemmas.List.{append-nil, map-append}
 use Rattle.std.proofs.lemmas.List.Sums.{fold-append}
 use Rattle.papergrid_tracks.specs.declared.demand.Demand.{Demand}
 use Rattle.papergrid_tracks.specs.Certificates.{exact_single}
-use Rattle.papergrid_tracks.specs.Ranges.{IsInTable, end_of, first_out, position_of}
+use Rattle.papergrid_tracks.specs.Ranges.{IsInTable, first_out}
 use Rattle.papergrid_tracks.specs.declared.demands.Demands.{Demands}
 use Rattle.papergrid_tracks.specs.ForProofs.Demands.{HoldsDemands, AreGathered, first_greatest, is_large, is_single, gathered_for, no_demand, rest_of, without_minimum}
 use Rattle.papergrid_tracks.specs.Sizes.{base_size, base_sizes, by_span}
@@ -73,8 +73,7 @@ unfolding first_greatest
 kept-is_first i ds = elim (cases_lt 0 (base_size ds i)) [
   | inl some ↦
       rw ((ne_eqb (base_size ds i) 0 (omega arith)), (kept-first i no_demand ds (base_size ds i) refl some).0) refl
-  | inr none ↦
-      rw (eq-eqb (base_size ds i) 0 (omega arith)) (kept-stays i no_demand ds none)
+  | inr none ↦ grind (arith, eq-eqb, kept-stays)
 ]
 
 pub first_greatest_nil : (i : ℕ) → first_greatest i [] ≡ no_demand
@@ -93,8 +92,7 @@ minimum-first_greatest i ds = ap (λ (k : Demand). k.minimum) (sym (kept-is_firs
 -- where track i has its base size and that is not 0, the cell is the first that needs it
 pub exact_single-first : (i : ℕ) (ds : List Demand) (sizes : List ℕ) → get_or sizes i 0 ≡ base_size ds i → get_or sizes i 0 ≢ 0 → exact_single ds sizes i ≡ Some (first_greatest i ds)
 exact_single-first i ds sizes base some =
-    let lt : 0 < get_or sizes i 0 = omega arith in
-    (kept-first i no_demand ds (get_or sizes i 0) (sym base) lt).0 ∙ ap Some (kept-is_first i ds)
+    (kept-first i no_demand ds (get_or sizes i 0) (sym base) (omega arith)).0 ∙ ap Some (kept-is_first i ds)
 
 -- the base sizes are the minimum sizes of what is kept
 pub base-from_single_span : (n limit : ℕ) (demands single_span : List Demand) (sizes : List ℕ) → n ≤ limit → length sizes ≡ n →
@@ -111,12 +109,7 @@ pub first_out-rest_of : (n limit : ℕ) (ds : List Demand) → All (λ d. is_sin
 first_out-rest_of n limit [] below = refl
 first_out-rest_of n limit (d ∷ ds) below =
     let rest = first_out-rest_of n limit ds (All-tail (λ d. is_single limit d ≡ true → d.start < n) d ds below) in
-    elim (cases_Bool (is_single limit d)) [
-      | inl t ↦
-          let inside : d.start < n = All-head (λ d. is_single limit d ≡ true → d.start < n) d ds below t in
-          rw (t, le-ltb n (end_of d) (omega (arith, eqb-true d.span 1 (and_parts (eqb d.span 1) (ltb d.start limit) t).0))) rest
-      | inr f ↦ rw f (ap (λ r. if nat_lt n (end_of d) then Some (position_of d) else r) rest)
-    ]
+    grind (arith, cases_Bool (is_single limit d), All-head, le-ltb, eqb-true, and_parts)
 
 -- a test that a single cell fails finds the same cells among the others
 filter-rest_of : (test : Demand → Bool) (limit : ℕ) (ds : List Demand) → ((d : Demand) → d.span ≡ 1 → test d ≡ false) → filter test (rest_of limit ds) ≡ filter test ds
@@ -177,9 +170,7 @@ module _ (limit : ℕ) (old new : Demands) (demands : List Demand) (d : Demand) 
         ∙ sym (map-append without_minimum (rest_of limit demands) (d ∷ [])) ∙ ap (map without_minimum) (sym (rest_of-other limit demands d other));
     large = large;
     exact = λ h. pushed ∙ ap (λ l. l ++ d ∷ []) (held.exact (sym same_large ∙ h)) ∙ sym (rest_of-other limit demands d other);
-    single_span = λ h i l.
-        ap (λ xs. get_or xs i no_demand) same ∙ held.single_span (sym same_large ∙ h) i l
-        ∙ sym (first_greatest_more i demands d ∙ elsewhere i l);
+    single_span = grind (arith, first_greatest_more, elsewhere);
     spans = spans;
   }
     where

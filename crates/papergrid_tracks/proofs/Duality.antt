@@ -23,7 +23,6 @@ minimums_below line sizes (d ∷ ds) h =
 pub total_bounds : (line : ℕ → Bool) (n : ℕ) (demands certificate_cells : List Demand) (sizes other : List ℕ) →
     All (IsInTable n) demands → IsCertificate (problem_of_demands line n demands) sizes certificate_cells → Fits (problem_of_demands line n demands) other → sum sizes ≤ sum other
 total_bounds line n demands certificate_cells sizes other table certificate fits =
-    let f : ℕ → ℕ = λ i. get_or other i 0 in
     let inside : AllByRecursion (λ d. end_of d ≤ n) certificate_cells =
     recursion_from_All (λ d. end_of d ≤ n) certificate_cells
     (All-weaker (Contains demands) (λ d. end_of d ≤ n) (λ d m. (All-contains (IsInTable n) demands d table m).ends_within) certificate_cells certificate.visible) in

@@ -1,5 +1,5 @@
 -- The sizes have room for each cell, and none is above its top minimum size.
-use Rattle.std.proofs.Common.{◌≡◌, ℕ, ◌+◌, ◌-◌, ◌<◌, ◌≤◌, Bool, true, ◌&&◌, ◌==◌, inl, inr, List, [], ◌∷◌, length, get_or, fold, refl, ap, ◌∙◌, arith}
+use Rattle.std.proofs.Common.{◌≡◌, ℕ, ◌+◌, ◌-◌, ◌<◌, ◌≤◌, Bool, true, ◌&&◌, ◌==◌, inl, inr, List, [], ◌∷◌, length, get_or, fold, refl, ap, ◌∙◌, arith, rules}
 use Rattle.std.specs.Prelude.{All, Contains}
 use Rattle.std.specs.List.{AllByRecursion}
 use Rattle.std.proofs.lemmas.Bool.{cases_lt}
@@ -7,7 +7,6 @@ use Rattle.std.proofs.lemmas.List.Elements.{recursion_from_All, All-from_recursi
 use Rattle.papergrid_tracks.specs.Problem.{problem_of_demands}
 use Rattle.papergrid_tracks.specs.declared.demand.Demand.{Demand}
 use Rattle.std.proofs.lemmas.List.{get_or_default}
-use Rattle.papergrid_tracks.proofs.Steps.{distributed_sum}
 use Rattle.papergrid_tracks.specs.Ranges.{end_of, holds, inner_lines, IsInTable}
 use Rattle.papergrid_tracks.specs.Fits.{top_minimum, range_sum, HasRoom, Fits}
 use Rattle.papergrid_tracks.specs.Sizes.{base_size, base_sizes, share, deficit, grown_sizes}
@@ -36,10 +35,9 @@ pub HasRoom-each_by_span : (line : ℕ → Bool) (sizes : List ℕ) (by_span : L
 HasRoom-each_by_span line sizes [] table = tt
 HasRoom-each_by_span line sizes (d ∷ rest) table =
     let same : length (grown_sizes line sizes d) ≡ length sizes = length-grown line sizes d in
-    let one : 1 ≤ d.span = table.0.covers_one in
     let le : end_of d ≤ length sizes = table.0.ends_within in
     let table' : AllByRecursion (IsInTable (length (grown_sizes line sizes d))) rest = rw same table.1 in (
-      HasRoom-by_span line (grown_sizes line sizes d) rest d (omega arith) (HasRoom-grown line sizes d one le),
+      HasRoom-by_span line (grown_sizes line sizes d) rest d (omega arith) (HasRoom-grown line sizes d table.0.covers_one le),
       HasRoom-each_by_span line (grown_sizes line sizes d) rest table',
     )
 
@@ -60,8 +58,6 @@ module _ (line : ℕ → Bool) (n : ℕ) (demands by_span : List Demand) (table 
   room_of : (d : Demand) → Contains demands d → HasRoom line (sizes_after line n demands by_span) d
   room_of d m =
       let cell : IsInTable n d = All-contains (IsInTable n) demands d table m in
-      let one : 1 ≤ d.span = cell.covers_one in
-      let le : end_of d ≤ n = cell.ends_within in
       let same : length (base_sizes n demands) ≡ n = length-base_sizes n demands in
       elim (cases_lt 1 d.span) [
         | inl two ↦
@@ -74,10 +70,7 @@ module _ (line : ℕ → Bool) (n : ℕ) (demands by_span : List Demand) (table 
 
   -- the sizes fit
   pub Fits-sizes_after : Fits (problem_of_demands line n demands) (sizes_after line n demands by_span)
-  Fits-sizes_after = record {
-    one_each = length-by_span line (base_sizes n demands) by_span ∙ length-base_sizes n demands;
-    room = λ k d l. room_of (get_or demands k d) (k, l, get_or_self demands k d l);
-  }
+  Fits-sizes_after = search (rules, length-by_span, length-base_sizes, room_of, get_or_self, get_or_default)
     where
       get_or_self : (ds : List Demand) (k : ℕ) (d : Demand) → k < length ds → get_or ds k (get_or ds k d) ≡ get_or ds k d
       get_or_self ds k d l = get_or_default ds k (get_or ds k d) d l
@@ -102,19 +95,7 @@ pub grown_same : (line : ℕ → Bool) (sizes : List ℕ) (d : Demand) (i : ℕ)
     get_or (grown_sizes line sizes d) i 0 ≡ get_or sizes i 0
 grown_same line sizes d i one l none =
     let a : get_or (grown_sizes line sizes d) i 0 ≡ get_or sizes i 0 + share (deficit line sizes d) d i = get_or-grown line sizes d i l in
-    let s : within (share (deficit line sizes d) d) d ≡ deficit line sizes d = distributed_sum (deficit line sizes d) d one in
-    elim (holds_cases d i) [
-      | inl h ↦
-          let j : ℕ = i - d.start in
-          let l' : d.start ≤ i = h.1 in
-          let l'' : i < end_of d = h.2 in
-          let e : d.start + (i - d.start) ≡ i = omega arith in
-          let p : share (deficit line sizes d) d (d.start + (i - d.start)) ≤ within (share (deficit line sizes d) d) d =
-          upto-point (λ k. share (deficit line sizes d) d (d.start + k)) d.span (i - d.start) (omega arith) in
-          let p' : share (deficit line sizes d) d (d.start + (i - d.start)) ≡ share (deficit line sizes d) d i = ap (share (deficit line sizes d) d) e in
-          omega arith
-      | inr h ↦ let z : share (deficit line sizes d) d i ≡ 0 = share-out (deficit line sizes d) d i one h.1 in omega arith
-    ]
+    grind (arith, holds_cases, within, upto-point, share-out)
 
 -- one step keeps the bound
 bound-grown : (line : ℕ → Bool) (sizes : List ℕ) (demands : List Demand) (d : Demand) (i : ℕ) → 1 ≤ d.span → end_of d ≤ length sizes → Contains demands d →
@@ -129,8 +110,6 @@ bound-grown line sizes demands d i one le m l bound = elim (cases_lt 0 (deficit 
         let z : share (deficit line sizes d) d i ≡ 0 = share-out (deficit line sizes d) d i one h.1 in
         omega arith
     | inl h ↦
-        let l' : d.start ≤ i = h.1 in
-        let l'' : i < end_of d = h.2 in
         let e : d.start + (i - d.start) ≡ i = omega arith in
         let p : get_or (grown_sizes line sizes d) (d.start + (i - d.start)) 0 ≤ within (λ k. get_or (grown_sizes line sizes d) k 0) d =
         upto-point (λ k. get_or (grown_sizes line sizes d) (d.start + k) 0) d.span (i - d.start) (omega arith) in
@@ -148,8 +127,7 @@ bound-by_span line sizes demands [] table cells i l bound = bound
 bound-by_span line sizes demands (d ∷ rest) table cells i l bound =
     let same : length (grown_sizes line sizes d) ≡ length sizes = length-grown line sizes d in
     let table' : AllByRecursion (IsInTable (length (grown_sizes line sizes d))) rest = rw same table.1 in
-    bound-by_span line (grown_sizes line sizes d) demands rest table' cells.1 i (omega arith)
-    (bound-grown line sizes demands d i table.0.covers_one table.0.ends_within cells.0 l bound)
+    search (rules, bound-by_span line (grown_sizes line sizes d) demands rest table' cells.1 i (omega arith), table', bound-grown)
 
 -- no size is above its top minimum size
 pub bound-sizes_after : (line : ℕ → Bool) (n : ℕ) (demands by_span : List Demand) → All (IsInTable n) demands → TakesAll demands by_span →
@@ -158,6 +136,4 @@ bound-sizes_after line n demands by_span table takes i l =
     let same : length (base_sizes n demands) ≡ n = length-base_sizes n demands in
     let b : get_or (base_sizes n demands) i 0 ≡ base_size demands i = get_or-base_sizes n demands i l in
     let b' : base_size demands i ≤ top_minimum demands i = base-below_top demands i in
-    bound-by_span line (base_sizes n demands) demands by_span
-    (recursion_from_All (IsInTable (length (base_sizes n demands))) by_span (table_of_by_span line n demands by_span table takes))
-    (recursion_from_All (Contains demands) by_span takes.cells) i (omega arith) (omega arith)
+    grind (arith, bound-by_span, recursion_from_All, table_of_by_span)

@@ -1,5 +1,5 @@
 -- A list that ascends by span is its groups of one span, one after another.
-use Rattle.std.proofs.Common.{◌≡◌, ℕ, zero, suc, ◌+◌, ◌-◌, ◌<◌, ◌≤◌, Bool, true, ◌==◌, ◌&&◌, not, inl, inr, List, [], ◌∷◌, ◌++◌, filter, refl, sym, ap, ◌∙◌, arith, eqb, eq-eqb, ne_eqb, eqb-true, lt-ltb, nat_cmp, is_lt, ap₂, ltb-true}
+use Rattle.std.proofs.Common.{◌≡◌, ℕ, zero, suc, ◌+◌, ◌-◌, ◌<◌, ◌≤◌, Bool, true, ◌==◌, ◌&&◌, not, inl, inr, List, [], ◌∷◌, ◌++◌, filter, refl, sym, ap, ◌∙◌, arith, eqb, eq-eqb, eqb-true, lt-ltb, nat_cmp, is_lt, ap₂, ltb-true, rules}
 use Rattle.std.specs.Prelude.{All, flat_map, nat_lt, ⊤}
 use Rattle.std.specs.List.{AllByRecursion, range_with_len}
 use Rattle.std.specs.List.Sorted.{IsNonDecreasingBy, IsStableByKey, ties}
@@ -48,24 +48,13 @@ groups_at a m later (d ∷ ds) up all = elim (cases_eq d.span a) [
   | inl e ↦
       let rest : flat_map (of_span ds) (range_with_len a (suc m)) ≡ ds = groups_at a m later ds up.1 all.1 in
       rw (eq-eqb d.span a e) (ap (λ xs. d ∷ (of_span ds a ++ xs)) (flat_map-skip d ds (a + 1) m (omega arith)) ∙ ap (λ xs. d ∷ xs) rest)
-  | inr ne ↦
-      let above : a < d.span = let l : a ≤ d.span = all.0.0 in omega arith in
-      let all' : AllByRecursion (λ e. (a + 1 ≤ e.span) × (e.span < a + 1 + m)) (d ∷ ds) = (
-        ((omega arith), (let l : d.span < a + suc m = all.0.1 in omega arith)),
-        both ds up.0 all.1 above,
-      ) in
-      let none : of_span ds a ≡ [] =
-      of_span-none ds a (ByRecursion-weaker (λ e. d.span ≤ e.span) (λ e. a < e.span) (λ e l. omega arith) ds up.0) in
-      rw (ne_eqb d.span a ne) (ap (λ xs. xs ++ flat_map (of_span (d ∷ ds)) (range_with_len (a + 1) m)) none ∙ later (d ∷ ds) up all')
+  | inr ne ↦ grind (arith, both, of_span-none, ByRecursion-weaker)
 ]
   where
     both : (ds : List Demand) → AllByRecursion (λ e. d.span ≤ e.span) ds → AllByRecursion (λ e. (a ≤ e.span) × (e.span < a + suc m)) ds → a < d.span →
         AllByRecursion (λ e. (a + 1 ≤ e.span) × (e.span < a + 1 + m)) ds
     both [] up all above = tt
-    both (e ∷ ds) up all above =
-        let x : d.span ≤ e.span = up.0 in
-        let y : e.span < a + suc m = all.0.1 in
-        (((omega arith), (omega arith)), both ds up.1 all.1 above)
+    both (e ∷ ds) up all above = (((omega arith), (omega arith)), both ds up.1 all.1 above)
 
 groups : (m a : ℕ) (ds : List Demand) → IsAscending ds → AllByRecursion (λ d. (a ≤ d.span) × (d.span < a + m)) ds → flat_map (of_span ds) (range_with_len a m) ≡ ds
 groups zero a [] up all = refl
@@ -104,8 +93,7 @@ by_span-from_sort n demands sorted up stable all =
 
 -- the cells of longer spans have spans of 2 up to n
 pub longer-spans : (n : ℕ) (demands : List Demand) → All (IsInTable n) demands → All (λ d. (2 ≤ d.span) × (d.span ≤ n)) (longer demands)
-longer-spans n demands table =
-    All-from_recursion (λ d. (2 ≤ d.span) × (d.span ≤ n)) (longer demands) (go demands (recursion_from_All (IsInTable n) demands table))
+longer-spans n demands table = search (rules, All-from_recursion, go, recursion_from_All, ltb-true)
   where
     go : (ds : List Demand) → AllByRecursion (IsInTable n) ds → AllByRecursion (λ d. (2 ≤ d.span) × (d.span ≤ n)) (longer ds)
     go [] all = tt

@@ -96,12 +96,11 @@ pub tight-outermost : (line : ℕ → Bool) (sizes : List ℕ) (by_span : List D
 tight-outermost line sizes [] table laminar = tt
 tight-outermost line sizes (d ∷ rest) table laminar =
     let same : length (grown_sizes line sizes d) ≡ length sizes = length-grown line sizes d in
-    let table' : AllByRecursion (IsInTable (length (grown_sizes line sizes d))) rest = rw same table.1 in
     let one : 1 ≤ d.span = table.0.covers_one in
     let le : end_of d ≤ length sizes = table.0.ends_within in
     let ones : AllByRecursion (λ e. 1 ≤ e.span) rest = ByRecursion-weaker (IsInTable (length sizes)) (λ e. 1 ≤ e.span) (λ e t. t.covers_one) rest table.1 in
     let ih : AllByRecursion (IsTight line (fold (grown_sizes line) (grown_sizes line sizes d) rest)) (outermost (growing_demands line (grown_sizes line sizes d) rest)) =
-    tight-outermost line (grown_sizes line sizes d) rest table' laminar.1 in
+    tight-outermost line (grown_sizes line sizes d) rest (rw same table.1) laminar.1 in
     elim (cases_Bool (ltb 0 (deficit line sizes d))) [
       | inr f ↦ rw f ih
       | inl t ↦ rw t (elim (cases_Bool (list_any (lies_in d) (growing_demands line (grown_sizes line sizes d) rest))) [

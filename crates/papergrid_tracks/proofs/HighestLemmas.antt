@@ -53,7 +53,6 @@ module _ (asks : Demand → ℕ) (n : ℕ) (ds : List Demand) (table : All (IsIn
   mirrored-boundaries : (boundary : ℕ → ℕ) (top : ℕ) → AreBoundaries asks n ds boundary → boundary n ≤ top → AreBoundaries (λ d. asks (mirror n d)) n (map (mirror n) ds) (λ i. top - boundary (n - i))
   mirrored-boundaries boundary top are le = record {
     rise = λ i l.
-        let a : boundary (n - (i + 1)) ≤ boundary (n - (i + 1) + 1) = are.rise (n - (i + 1)) (omega arith) in
         let e : boundary (n - (i + 1) + 1) ≡ boundary (n - i) = ap boundary (let s : n - (i + 1) + 1 ≡ n - i = omega arith in s) in
         omega arith;
     apart = All-map (λ d. (top - boundary (n - d.start)) + asks (mirror n d) ≤ top - boundary (n - end_of d)) (mirror n) ds
@@ -63,7 +62,6 @@ module _ (asks : Demand → ℕ) (n : ℕ) (ds : List Demand) (table : All (IsIn
       apart_at : (d : Demand) → IsInTable n d → boundary d.start + asks d ≤ boundary (end_of d) →
           (top - boundary (n - (mirror n d).start)) + asks (mirror n (mirror n d)) ≤ top - boundary (n - end_of (mirror n d))
       apart_at d cell apart =
-          let within : d.start + d.span ≤ n = cell.ends_within in
           let a : asks (mirror n (mirror n d)) ≡ asks d = ap asks (mirrored-twice n d cell) in
           let b : boundary (n - (n - (d.start + d.span))) ≡ boundary (d.start + d.span) = ap boundary (let s : n - (n - (d.start + d.span)) ≡ d.start + d.span = omega arith in s) in
           let c : boundary (n - (n - (d.start + d.span) + d.span)) ≡ boundary d.start = ap boundary (let s : n - (n - (d.start + d.span) + d.span) ≡ d.start = omega arith in s) in
@@ -75,7 +73,6 @@ module _ (asks : Demand → ℕ) (n : ℕ) (ds : List Demand) (table : All (IsIn
   boundaries_from_mirrored : (boundary : ℕ → ℕ) (top : ℕ) → AreBoundaries (λ d. asks (mirror n d)) n (map (mirror n) ds) boundary → boundary n ≤ top → AreBoundaries asks n ds (λ i. top - boundary (n - i))
   boundaries_from_mirrored boundary top are le = record {
     rise = λ i l.
-        let a : boundary (n - (i + 1)) ≤ boundary (n - (i + 1) + 1) = are.rise (n - (i + 1)) (omega arith) in
         let e : boundary (n - (i + 1) + 1) ≡ boundary (n - i) = ap boundary (let s : n - (i + 1) + 1 ≡ n - i = omega arith in s) in
         omega arith;
     apart = λ k d l. apart_at (get_or ds k d) (table k d l)
@@ -85,12 +82,10 @@ module _ (asks : Demand → ℕ) (n : ℕ) (ds : List Demand) (table : All (IsIn
       apart_at : (d : Demand) → IsInTable n d → boundary (mirror n d).start + asks (mirror n (mirror n d)) ≤ boundary (end_of (mirror n d)) →
           (top - boundary (n - d.start)) + asks d ≤ top - boundary (n - end_of d)
       apart_at d cell apart =
-          let within : d.start + d.span ≤ n = cell.ends_within in
           let a : asks (mirror n (mirror n d)) ≡ asks d = ap asks (mirrored-twice n d cell) in
           let b : boundary (n - (d.start + d.span) + d.span) ≡ boundary (n - d.start) = ap boundary (let s : n - (d.start + d.span) + d.span ≡ n - d.start = omega arith in s) in
           let e : boundary (n - d.start) ≤ boundary ((n - d.start) + d.start) = rises (λ d. asks (mirror n d)) n (map (mirror n) ds) boundary are (n - d.start) d.start (omega arith) in
           let f : boundary ((n - d.start) + d.start) ≡ boundary n = ap boundary (let s : (n - d.start) + d.start ≡ n = omega arith in s) in
-          let g : boundary (n - (d.start + d.span)) + asks (mirror n (mirror n d)) ≤ boundary (n - (d.start + d.span) + d.span) = apart in
           omega arith
 
   back-boundaries : AreBoundaries (λ d. asks (mirror n d)) n (map (mirror n) ds) (lowest_position_back asks n ds)

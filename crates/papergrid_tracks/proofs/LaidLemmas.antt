@@ -1,5 +1,5 @@
 -- Boundaries that are laid in order.
-use Rattle.std.proofs.Common.{◌≡◌, ◌≢◌, ℕ, zero, suc, ◌+◌, ◌-◌, ◌<◌, ◌≤◌, ◌∙◌, max, inl, inr, List, length, get_or, set, ap, arith, add-zero}
+use Rattle.std.proofs.Common.{◌≡◌, ◌≢◌, ℕ, zero, suc, ◌+◌, ◌-◌, ◌<◌, ◌≤◌, ◌∙◌, max, inl, inr, List, length, get_or, set, ap, arith, add-zero, rules}
 use Rattle.std.specs.Prelude.{All}
 use Rattle.std.specs.List.Sorted.{IsNonDecreasingBy}
 use Rattle.std.proofs.lemmas.Bool.{cases_eq, cases_lt}
@@ -15,8 +15,7 @@ rise_by base a b boundary steps i (suc k) from le = grind (arith, steps, rise_by
 -- no boundary is past a later one
 pub steps-rise : (base : List ℕ) (a b : ℕ) (boundary : ℕ → ℕ) → AreSteps base a b boundary → (i j : ℕ) → a ≤ i → i ≤ j → j ≤ b → boundary i ≤ boundary j
 steps-rise base a b boundary steps i j from le within =
-    let e : i + (j - i) ≡ j = omega arith in
-    let same : boundary (i + (j - i)) ≡ boundary j = ap boundary e in
+    let same : boundary (i + (j - i)) ≡ boundary j = ap boundary (omega arith) in
     let up : boundary i ≤ boundary (i + (j - i)) = rise_by base a b boundary steps i (j - i) from (omega arith) in
     omega arith
 
@@ -45,12 +44,7 @@ module _ (base : List ℕ) (n : ℕ) (cells : List Demand) (table : All (IsInTab
 
   pub apart-cell : ((j : ℕ) (c : Demand) → j < k → (end_of (get_or cells j c) ≤ a) × (f (get_or cells j c).start + (get_or cells j c).minimum ≤ f (end_of (get_or cells j c)))) →
       (j : ℕ) (c : Demand) → j < k + 1 → (end_of (get_or cells j c) ≤ end_of (get_or cells k d)) × (g (get_or cells j c).start + (get_or cells j c).minimum ≤ g (end_of (get_or cells j c)))
-  apart-cell apart j c l =
-      let one : 1 ≤ (get_or cells j c).span = (table j c (omega arith)).covers_one in
-      elim (cases_lt j k) [
-        | inl early ↦ earlier j c one (apart j c early)
-        | inr late ↦ let same : j ≡ k = omega arith in here j c same one
-      ]
+  apart-cell apart j c l = search (rules, cases_lt j k, earlier, apart, here, not_less)
     where
       earlier : (j : ℕ) (c : Demand) → 1 ≤ (get_or cells j c).span → (end_of (get_or cells j c) ≤ a) × (f (get_or cells j c).start + (get_or cells j c).minimum ≤ f (end_of (get_or cells j c))) →
           (end_of (get_or cells j c) ≤ end_of (get_or cells k d)) × (g (get_or cells j c).start + (get_or cells j c).minimum ≤ g (end_of (get_or cells j c)))
@@ -60,18 +54,7 @@ module _ (base : List ℕ) (n : ℕ) (cells : List Demand) (table : All (IsInTab
       here j c same one = grind (arith, get_or_default)
 
   pub below-cell : (boundary : ℕ → ℕ) → AreSteps base 0 n boundary → AreSpaced cells boundary → ((i : ℕ) → i ≤ a → f i ≤ boundary i) → (i : ℕ) → i ≤ end_of (get_or cells k d) → g i ≤ boundary i
-  below-cell boundary steps apart below i le = elim (cases_eq i (end_of (get_or cells k d))) [
-    | inl e ↦
-        let one : 1 ≤ (get_or cells k d).span = (table k d listed).covers_one in
-        let p : m (end_of (get_or cells k d)) ≤ boundary (end_of (get_or cells k d)) = mid (end_of (get_or cells k d)) (omega arith) in
-        let q : m (get_or cells k d).start ≤ boundary (get_or cells k d).start = mid (get_or cells k d).start (omega arith) in
-        let r : boundary (get_or cells k d).start + (get_or cells k d).minimum ≤ boundary (end_of (get_or cells k d)) = apart k d listed in
-        rw e (omega arith)
-    | inr ne ↦
-        let p : m i ≤ boundary i = mid i le in
-        let x : g i ≡ m i = elsewhere i ne in
-        omega arith
-  ]
+  below-cell boundary steps apart below i le = grind (arith, cases_eq i (end_of (get_or cells k d)), mid, apart, elsewhere, below-more, steps, below)
     where
       mid : (i : ℕ) → i ≤ end_of (get_or cells k d) → m i ≤ boundary i
       mid i le = below-more base n boundary m a (end_of (get_or cells k d)) steps (table k d listed).ends_within

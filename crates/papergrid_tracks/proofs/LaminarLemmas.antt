@@ -1,5 +1,5 @@
 -- The test of ranges that are nested or disjoint tells whether they are, and where they are not two of them cross.
-use Rattle.std.proofs.Common.{◌≡◌, ℕ, ◌<◌, ◌≤◌, ◌⊎◌, ◌||◌, inl, inr, true, false, Bool, List, [], ◌∷◌, get_or, nat_le, arith, refl, sym, ◌∙◌, ltb-true}
+use Rattle.std.proofs.Common.{◌≡◌, ℕ, ◌<◌, ◌≤◌, ◌⊎◌, ◌||◌, inl, inr, true, false, Bool, List, [], ◌∷◌, get_or, nat_le, arith, refl, ltb-true}
 use Rattle.std.specs.Prelude.{All, Contains, IsTrue, nat_lt, ◌↔◌}
 use Rattle.std.specs.List.{list_all}
 use Rattle.std.proofs.lemmas.Bool.{cases_Bool, leb-true, le-leb, lt-ltb, true≢false}
@@ -21,8 +21,7 @@ are_nested a b = lies_in a b || lies_in b a
 
 -- any two of them are nested or disjoint
 abbrev pub is_laminar : List Demand → Bool
-is_laminar demands =
-    list_all (λ a. list_all (λ b. are_nested a b || are_disjoint a b) (longer demands)) (longer demands)
+is_laminar demands = list_all (λ a. list_all (λ b. are_nested a b || are_disjoint a b) (longer demands)) (longer demands)
 
 Decides-leb : (a b : ℕ) → IsTrue (nat_le a b) ↔ (a ≤ b)
 Decides-leb a b = (leb-true a b, le-leb a b)
@@ -89,17 +88,7 @@ module _ (demands : List Demand) where
       let other : (b : Demand) × (are_compatible one.0 b ≡ false) × Contains (longer demands) b = failing (are_compatible one.0) (longer demands) one.1 in
       let p = All-contains (λ d. (nat_lt 1 d.span ≡ true) × Contains demands d) (longer demands) one.0 cells one.2 in
       let q = All-contains (λ d. (nat_lt 1 d.span ≡ true) × Contains demands d) (longer demands) other.0 cells other.2 in
-      let two : 1 < one.0.span = ltb-true 1 one.0.span p.0 in
-      let also : 1 < other.0.span = ltb-true 1 other.0.span q.0 in
-      let none : AreCompatible one.0 other.0 → ⊥ = λ either. true≢false (sym ((compatible one.0 other.0).1 either) ∙ other.1) in
-      record {
-        one = one.0;
-        other = other.0;
-        are_visible = (p.1, q.1);
-        are_long = ((omega arith), (omega arith));
-        not_nested = λ x. none (inl x);
-        not_disjoint = λ x. none (inr x);
-      }
+      grind (arith, one, other)
 
   -- ranges that cross are neither nested nor disjoint
   pub not_laminar : SomeCross demands → IsLaminar demands → ⊥

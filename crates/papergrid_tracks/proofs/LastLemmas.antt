@@ -1,6 +1,6 @@
 -- A table that holds, for each track, the last cell taken whose range holds it: it decides whether the ranges are nested or
 -- disjoint, and gives the cells of the certificate at one look for each track.
-use Rattle.std.proofs.Common.{◌≡◌, ℕ, zero, suc, ◌<◌, ◌≤◌, true, false, cond, ◌==◌, ◌⊎◌, inl, inr, List, [], ◌∷◌, ◌++◌, length, get_or, refl, sym, ap, ◌∙◌, subst, arith, eqb, eq-eqb, ne_eqb, Option, Some, None}
+use Rattle.std.proofs.Common.{◌≡◌, ℕ, zero, suc, ◌<◌, ◌≤◌, true, false, cond, ◌==◌, ◌⊎◌, inl, inr, List, [], ◌∷◌, ◌++◌, length, get_or, refl, sym, ap, ◌∙◌, subst, arith, eqb, eq-eqb, Option, Some, None, rules}
 use Rattle.std.specs.Prelude.{find, All, Contains}
 use Rattle.std.specs.List.{AllByRecursion, list_any}
 use Rattle.std.proofs.lemmas.Bool.{cases_Bool, cases_eq, cases_lt, or_parts, or_from, true≢false, false≢true}
@@ -68,13 +68,7 @@ find-outermost (d ∷ rest) i laminar ones =
       ])
       | inr outer ↦
           let disjoint : AllByRecursion (AreDisjoint d) rest = disjoint-from_outer d rest laminar.0 outer in
-          rw outer (elim (cases_eq d.start i) [
-            | inl e ↦
-                let h : holds d i ≡ true = holds_start d i ones.0 e in
-                let none : last_holding rest i ≡ None = last_holding-none rest i (not_covered d rest i disjoint h) in
-                rw (eq-eqb d.start i e, none, h) (rw (eq-eqb d.start i e) refl)
-            | inr ne ↦ rw (ne_eqb d.start i ne) (ih ∙ starting_at-other d i (last_holding rest i) (ne_eqb d.start i ne))
-          ])
+          grind (arith, cases_eq d.start i, holds_start, last_holding-none, not_covered, disjoint, eq-eqb, ih, starting_at-other)
     ]
 
 -- the cell of the certificate at i, by one look at the table
@@ -153,17 +147,13 @@ compatible-refl a = inl (inl ((omega arith), (omega arith)))
 
 -- any two cells of a laminar list are nested or disjoint
 compatible-pairs : (ds : List Demand) (a b : Demand) → IsLaminarInOrder ds → Contains ds a → Contains ds b → AreCompatible a b
-compatible-pairs ds a b laminar m m' = go ds laminar m.0 m'.0 m.1 m'.1 m.2 m'.2
+compatible-pairs ds a b laminar m m' = search (rules, go, compatible-refl, compatible-from_precedes, All-contains, All-from_recursion, compatible-sym)
   where
     go : (ds : List Demand) → IsLaminarInOrder ds → (i j : ℕ) → i < length ds → j < length ds → get_or ds i a ≡ a → get_or ds j b ≡ b → AreCompatible a b
     go [] laminar i j l l' e e' = absurd (omega arith)
     go (d ∷ ds) laminar zero zero l l' e e' = subst (λ x. AreCompatible a x) (sym e ∙ e') (compatible-refl a)
-    go (d ∷ ds) laminar zero (suc j) l l' e e' =
-        subst (λ x. AreCompatible x b) e
-        (compatible-from_precedes d b (All-contains (Precedes d) ds b (All-from_recursion (Precedes d) ds laminar.0) (j, omega arith, e')))
-    go (d ∷ ds) laminar (suc i) zero l l' e e' =
-        compatible-sym b a (subst (λ x. AreCompatible x a) e'
-        (compatible-from_precedes d a (All-contains (Precedes d) ds a (All-from_recursion (Precedes d) ds laminar.0) (i, omega arith, e))))
+    go (d ∷ ds) laminar zero (suc j) l l' e e' = grind (arith, compatible-from_precedes, All-contains, All-from_recursion)
+    go (d ∷ ds) laminar (suc i) zero l l' e e' = grind (arith, compatible-sym, compatible-from_precedes, All-contains, All-from_recursion)
     go (d ∷ ds) laminar (suc i) (suc j) l l' e e' = go ds laminar.1 i j (omega arith) (omega arith) e e'
 
 -- so whether ranges are nested or disjoint is decided on the cells that are taken

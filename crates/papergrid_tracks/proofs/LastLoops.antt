@@ -39,8 +39,7 @@ module _ (n : ℕ) (ds : List Demand) (last : List (Option Demand)) (table : All
   table-cells i o e = elim (cases_lt i n) [
     | inl l ↦
         rw is.many (last_holding-all (IsInTable n) ds i o table (sym (is.holds_last i l) ∙ e)).1
-    | inr le ↦
-        absurd (none_some (sym (get_or_past last i None (omega arith)) ∙ e))
+    | inr le ↦ grind (arith, none_some, get_or_past)
   ]
 
   ones : AllByRecursion (λ c. 1 ≤ c.span) ds

@@ -1,6 +1,6 @@
 -- Boundaries by what is kept of the cells are boundaries by what they ask.
-use Rattle.std.proofs.Common.{◌≡◌, ℕ, ◌+◌, ◌-◌, ◌<◌, ◌≤◌, ◌∙◌, Bool, true, ◌&&◌, ◌==◌, not, inl, inr, List, length, get_or, refl, ap, arith, eq-eqb, eqb, eqb-true}
-use Rattle.std.specs.Prelude.{All, Contains, map, nat_lt, count_by}
+use Rattle.std.proofs.Common.{◌≡◌, ℕ, ◌+◌, ◌-◌, ◌<◌, ◌≤◌, ◌∙◌, Bool, true, ◌&&◌, ◌==◌, not, inl, inr, List, length, get_or, refl, ap, arith, eq-eqb, eqb-true, rules}
+use Rattle.std.specs.Prelude.{All, Contains, map, count_by}
 use Rattle.std.specs.List.{range_with_len}
 use Rattle.std.proofs.lemmas.Bool.{and_from, and_parts, cases_Bool}
 use Rattle.std.proofs.lemmas.List.Elements.{All-contains, All-filter, All-map, Contains-get_or, recursion_from_All}
@@ -15,7 +15,7 @@ use Rattle.papergrid_tracks.specs.TrackBoundaries.{AreBoundaries, AreLowest, net
 use Rattle.papergrid_tracks.specs.ForProofs.Laid.{AreLaid, with_net_minimum}
 use Rattle.papergrid_tracks.specs.ForProofs.Limits.{AreLowestBoundaries, AreHighestBoundaries}
 use Rattle.papergrid_tracks.proofs.LowestLemmas.{lowest_position, AreLowest-lowest_position, one-lowest}
-use Rattle.papergrid_tracks.proofs.HighestLemmas.{highest_position, All-unmapped, AreBoundaries-highest_position, highest_position-above, highest_position-last}
+use Rattle.papergrid_tracks.proofs.HighestLemmas.{highest_position, All-unmapped, AreBoundaries-highest_position, highest_position-above}
 
 -- a cell that covers one track alone has no line inside of it
 pub inner-alone : (line : ℕ → Bool) (d : Demand) → d.span ≡ 1 → inner_lines line d ≡ 0
@@ -48,18 +48,12 @@ module _ (line drawn : ℕ → Bool) (n limit : ℕ) (demands : List Demand) (ag
 
       step : (i : ℕ) → i < n → boundary i + get_or base i 0 ≤ boundary (i + 1)
       step i l =
-          let rise : boundary i ≤ boundary (i + 1) = are.rise i l in
           let e : get_or base i 0 ≡ base_size demands i = base-at i l in
-          let b : base_size demands i ≤ boundary (i + 1) - boundary i =
-          greatest_minimum-below (λ d. d.span == 1 && d.start == i) demands (boundary (i + 1) - boundary i)
-          (recursion_from_All (λ d. (d.span == 1 && d.start == i) ≡ true → d.minimum ≤ boundary (i + 1) - boundary i) demands (λ k d l'. alone i (get_or demands k d) (are.apart k d l'))) in
+          let b : base_size demands i ≤ boundary (i + 1) - boundary i = grind (arith, greatest_minimum-below, recursion_from_All, alone) in
           omega arith
 
   pub AreBoundaries-from_laid : (boundary : ℕ → ℕ) → AreLaid base longer_asking boundary → AreBoundaries (net_minimum line) n demands boundary
-  AreBoundaries-from_laid boundary are = record {
-    rise = λ i l. let s : boundary i + get_or base i 0 ≤ boundary (i + 1) = are.steps i (omega arith) (omega arith) in omega arith;
-    apart = λ k d l. apart_at (get_or demands k d) (Contains-get_or demands k d l) (table k d l) (below k d l);
-  }
+  AreBoundaries-from_laid boundary are = search (rules, apart_at, Contains-get_or, longer, All-unmapped)
     where
       longer : All (λ d. boundary d.start + net_minimum drawn d ≤ boundary (end_of d)) (rest_of limit demands)
       longer = All-unmapped (λ d. boundary d.start + d.minimum ≤ boundary (end_of d)) (with_net_minimum (net_minimum drawn)) (rest_of limit demands) are.apart
@@ -74,9 +68,7 @@ module _ (line drawn : ℕ → Bool) (n limit : ℕ) (demands : List Demand) (ag
 
       apart_at : (d : Demand) → Contains demands d → IsInTable n d → (is_single limit d ≡ true → d.start < n) → boundary d.start + net_minimum line d ≤ boundary (end_of d)
       apart_at d listed cell small = elim (cases_Bool (is_single limit d)) [
-        | inl t ↦
-            let parts : (eqb d.span 1 ≡ true) × (nat_lt d.start limit ≡ true) = and_parts (eqb d.span 1) (nat_lt d.start limit) t in
-            single d listed (eqb-true d.span 1 parts.0) (small t)
+        | inl t ↦ grind (arith, single, eqb-true, and_parts)
         | inr f ↦
             let passes : not (is_single limit d) ≡ true = ap not f in
             let apart : boundary d.start + net_minimum drawn d ≤ boundary (end_of d) =
@@ -96,9 +88,6 @@ module _ (line drawn : ℕ → Bool) (n limit : ℕ) (demands : List Demand) (ag
 
   pub highest_position-is : (boundaries : List ℕ) (total : ℕ) → total ≡ lowest_position (net_minimum line) demands n → AreHighestBoundaries base longer_asking total boundaries → (i : ℕ) → i ≤ n → get_or boundaries i 0 ≡ highest_position (net_minimum line) n demands i
   highest_position-is boundaries total total_is is i l =
-      let last : highest_position (net_minimum line) n demands n ≡ lowest_position (net_minimum line) demands n = highest_position-last (net_minimum line) n demands in
-      let last' : highest_position (net_minimum line) n demands (length base) ≡ highest_position (net_minimum line) n demands n = ap (highest_position (net_minimum line) n demands) many in
-      let end : get_or boundaries (length base) 0 ≡ total = is.last in
       let end' : get_or boundaries (length base) 0 ≡ get_or boundaries n 0 = ap (λ k. get_or boundaries k 0) many in
       let a : highest_position (net_minimum line) n demands i ≤ get_or boundaries i 0 = is.above (highest_position (net_minimum line) n demands) (AreLaid-from_boundaries (highest_position (net_minimum line) n demands) (AreBoundaries-highest_position (net_minimum line) n demands table)) (omega arith) i (omega arith) in
       let b : get_or boundaries i 0 ≤ highest_position (net_minimum line) n demands i = highest_position-above (net_minimum line) n demands table (λ i. get_or boundaries i 0) (AreBoundaries-from_laid (λ i. get_or boundaries i 0) is.laid) (omega arith) i l in

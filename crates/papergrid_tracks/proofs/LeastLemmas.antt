@@ -1,5 +1,5 @@
 -- The sizes of the least total.
-use Rattle.std.proofs.Common.{◌≡◌, ◌∙◌, ℕ, suc, ◌+◌, ◌-◌, ◌<◌, ◌≤◌, min, Bool, List, length, map, get_or, take, sum, refl, sym, ap, subst, arith}
+use Rattle.std.proofs.Common.{◌≡◌, ◌∙◌, ℕ, suc, ◌+◌, ◌-◌, ◌<◌, ◌≤◌, min, Bool, List, length, map, get_or, take, sum, refl, sym, ap, arith, rules}
 use Rattle.std.specs.Prelude.{All, None, ◌↔◌}
 use Rattle.std.proofs.lemmas.Grind.{same_number_lists}
 use Rattle.std.proofs.lemmas.List.FromFn.{fill_by_all}
@@ -19,7 +19,7 @@ use Rattle.papergrid_tracks.specs.Least.{AreFurthestRight, AreLeastBefore}
 use Rattle.papergrid_tracks.proofs.BoundaryLemmas.{AreBoundaries-boundaries_of, AreBoundaries-min, Fits-sizes_between, boundaries-sizes_between, sum-sizes_between, take_whole}
 use Rattle.papergrid_tracks.proofs.LowestLemmas.{AreBoundaries-lowest_position, lowest_position, least_total, lowest_position-total, IsLeast-lowest_position}
 use Rattle.papergrid_tracks.proofs.CriticalPathLemmas.{IsCertificate-critical_path, critical_path}
-use Rattle.papergrid_tracks.proofs.HighestLemmas.{highest_position, least_sizes, least_of, AreBoundaries-highest_position, highest_position-above, highest_position-last}
+use Rattle.papergrid_tracks.proofs.HighestLemmas.{highest_position, least_sizes, least_of, AreBoundaries-highest_position, highest_position-above}
 use Rattle.papergrid_tracks.proofs.PathBackLemmas.{critical_path-is}
 
 module _ (line : ℕ → Bool) (n : ℕ) (demands : List Demand) (sizes : List ℕ) (table : All (IsInTable n) demands) where
@@ -39,7 +39,6 @@ module _ (line : ℕ → Bool) (n : ℕ) (demands : List Demand) (sizes : List �
         least = λ other fits'.
             let a : lowest_position (net_minimum line) demands n ≤ sum other = lowest_position-total line n demands other table fits' in
             let b : sum (sizes_between n lower) + lower 0 ≡ lower n = sum-sizes_between n lower are.rise in
-            let c : highest_position (net_minimum line) n demands n ≡ lowest_position (net_minimum line) demands n = highest_position-last (net_minimum line) n demands in
             let d : lower n ≤ highest_position (net_minimum line) n demands n = omega arith in
             omega arith;
       }
@@ -79,13 +78,12 @@ same_boundaries n xs ys many as_many same = same_number_lists xs ys (many ∙ sy
         let b : sum (take k xs) ≡ upto (λ i. get_or xs i 0) k = sum-take k xs in
         let c : sum (take (suc k) ys) ≡ upto (λ i. get_or ys i 0) k + get_or ys k 0 = sum-take (suc k) ys in
         let d : sum (take k ys) ≡ upto (λ i. get_or ys i 0) k = sum-take k ys in
-        let e : sum (take (suc k) xs) ≡ sum (take (suc k) ys) = same (suc k) (omega arith) in
         let f : sum (take k xs) ≡ sum (take k ys) = same k (omega arith) in
         omega arith
 
 -- least sizes are too large exactly where every list that fits is
 pub refused-least : (problem : Problem) (least : List ℕ) → IsLeast problem least → IsTooLarge problem least ↔ ((other : List ℕ) → Fits problem other → IsTooLarge problem other)
-refused-least problem least is = ((λ large other fits. too_large other large (is.least other fits)), (λ each. each least is.fits))
+refused-least problem least is = search (rules, too_large)
   where
     too_large : (other : List ℕ) → IsTooLarge problem least → sum least ≤ sum other → IsTooLarge problem other
     too_large other large le = grind arith
@@ -125,9 +123,7 @@ module _ (problem : Problem) (table : All (IsInTable problem.count) problem.dema
   boundaries-least_of i l =
       let are : AreBoundaries (net_minimum problem.line) problem.count problem.demands (λ i. min (shares i) (last i)) =
       AreBoundaries-lower problem.line problem.count problem.demands (sizes_of problem) table (Fits-sizes_of problem table) in
-      let a : boundaries_of (least_of problem) i + min (shares 0) (last 0) ≡ min (shares i) (last i) =
-      boundaries-sizes_between problem.count (λ i. min (shares i) (last i)) are.rise i l in
-      let b : shares 0 ≡ 0 = refl in
+      let a : boundaries_of (least_of problem) i + min (shares 0) (last 0) ≡ min (shares i) (last i) = grind (arith, boundaries-sizes_between) in
       omega arith
 
   before-least_of : AreLeastBefore problem (least_of problem)
@@ -139,7 +135,6 @@ module _ (problem : Problem) (table : All (IsInTable problem.count) problem.dema
   furthest-least_of : (other : List ℕ) → AreLeastBefore problem other → (i : ℕ) → i ≤ problem.count → boundaries_of other i ≤ boundaries_of (least_of problem) i
   furthest-least_of other are i l =
       let a : boundaries_of (least_of problem) i ≡ min (shares i) (last i) = boundaries-least_of i l in
-      let b : boundaries_of other i ≤ shares i = are.nowhere_past i l in
       let c : boundaries_of other i ≤ last i =
       highest_position-above (net_minimum problem.line) problem.count problem.demands table (boundaries_of other)
       (AreBoundaries-boundaries_of problem.line problem.count problem.demands other are.least.fits) total i l in
@@ -153,7 +148,7 @@ module _ (problem : Problem) (table : All (IsInTable problem.count) problem.dema
           omega arith
 
   pub furthest_right-is : (sizes : List ℕ) → AreFurthestRight problem sizes ↔ (sizes ≡ least_of problem)
-  furthest_right-is sizes = (unique, λ e. subst (AreFurthestRight problem) (sym e) record { among = before-least_of; furthest = furthest-least_of })
+  furthest_right-is sizes = search (rules, unique, before-least_of, furthest-least_of, least_of, same_boundaries)
     where
       unique : AreFurthestRight problem sizes → sizes ≡ least_of problem
       unique are = grind (arith, same_boundaries, least_of, before-least_of, furthest-least_of)

@@ -40,11 +40,8 @@ inner_lines-slice lines d table = grind (arith, drawn_from)
 pub share-le : (amount : ℕ) (d : Demand) (i : ℕ) → 1 ≤ d.span → share amount d i ≤ amount
 share-le amount d i one = elim (holds_cases d i) [
   | inl h ↦
-      let l : d.start ≤ i = h.1 in
-      let l' : i < end_of d = h.2 in
-      let e : d.start + (i - d.start) ≡ i = omega arith in
       let p : share amount d (d.start + (i - d.start)) ≤ within (share amount d) d = upto-point (λ k. share amount d (d.start + k)) d.span (i - d.start) (omega arith) in
-      let p' : share amount d (d.start + (i - d.start)) ≡ share amount d i = ap (share amount d) e in
+      let p' : share amount d (d.start + (i - d.start)) ≡ share amount d i = ap (share amount d) (omega arith) in
       let s : within (share amount d) d ≡ amount = distributed_sum amount d one in
       omega arith
   | inr h ↦ let z : share amount d i ≡ 0 = share-out amount d i one h.1 in omega arith
@@ -62,8 +59,7 @@ Distributes-all amount d old new next_share one same h =
     same_number_lists new (distributed amount d old) (same ∙ sym (length-distributed amount d old))
     (λ k l. elim (cases_lt k (end_of d)) [
       | inl lt ↦ h.below k lt ∙ sym (at k (omega arith))
-      | inr le ↦
-          omega (arith, at k (omega arith), share-out amount d k one (inr le), h.rest k le)
+      | inr le ↦ grind (arith, at, share-out)
     ])
   where
     at : (k : ℕ) → k < length old → get_or (distributed amount d old) k 0 ≡ get_or old k 0 + share amount d k
@@ -85,8 +81,6 @@ range_with_len-append a (suc m) k =
 -- the inner lines are among all lines
 pub inner_lines-le : (line : ℕ → Bool) (n : ℕ) (d : Demand) → IsInTable n d → inner_lines line d ≤ all_lines line n
 inner_lines-le line n d table =
-    let one : 1 ≤ d.span = table.covers_one in
-    let le : end_of d ≤ n = table.ends_within in
     let e : n + 1 ≡ (d.start + 1) + ((d.span - 1) + (n + 1 - end_of d)) = omega arith in
     let a : all_lines line n ≡ count_by line (range_with_len 0 ((d.start + 1) + ((d.span - 1) + (n + 1 - end_of d)))) = ap (λ m. count_by line (range_with_len 0 m)) e in
     let b : count_by line (range_with_len 0 ((d.start + 1) + ((d.span - 1) + (n + 1 - end_of d))))

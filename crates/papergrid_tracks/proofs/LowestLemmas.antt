@@ -89,14 +89,7 @@ module _ (asks : Demand → ℕ) (ds : List Demand) where
 
   module _ (n : ℕ) (table : All (IsInTable n) ds) where
     pub AreBoundaries-lowest_position : AreBoundaries asks n ds (lowest_position asks ds)
-    AreBoundaries-lowest_position = record {
-      rise = λ i l. let e : i + 1 ≡ suc i = omega arith in rw e (lowest_position-rises i);
-      apart = λ k d l. apart_at k (get_or ds k d) (table k d l) (λ i. pushed-above asks ds (lowest_position_to asks ds i) (suc i) k d l);
-    }
-      where
-        apart_at : (k : ℕ) (d : Demand) → IsInTable n d → ((i : ℕ) → end_of d ≡ suc i → lowest_position_to asks ds i d.start + asks d ≤ pushed_lower_bound asks ds (lowest_position_to asks ds i) (suc i)) →
-            lowest_position asks ds d.start + asks d ≤ lowest_position asks ds (end_of d)
-        apart_at k d cell pushed = search (rules, lowest_position_to-is, lowest_position_to-at)
+    AreBoundaries-lowest_position = grind (arith, lowest_position-rises, pushed-above, lowest_position_to-is, lowest_position_to-at)
 
     push_at : (boundary : ℕ → ℕ) (k : ℕ) → ((i : ℕ) → i ≤ k → lowest_position_to asks ds k i ≤ boundary i) → (d : Demand) → IsInTable n d → boundary d.start + asks d ≤ boundary (end_of d) → end_of d ≡ suc k →
         lowest_position_to asks ds k d.start + asks d ≤ boundary (suc k)

@@ -43,9 +43,7 @@ pub large_any : (line : ℕ → Bool) (n : ℕ) (sizes : List ℕ) (ds : List De
     18446744073709551616 ≤ sum sizes + all_lines line n
 large_any line n sizes [] e table room = absurd (false≢true e)
 large_any line n sizes (d ∷ ds) e table room = elim (cases_Bool (is_large d)) [
-  | inl t ↦
-      let m : 18446744073709551616 ≤ d.minimum = leb-true 18446744073709551616 d.minimum t in
-      large_minimum line n sizes d (All-head (IsInTable n) d ds table) (omega arith) (All-head (HasRoom line sizes) d ds room)
+  | inl t ↦ grind (arith, leb-true, large_minimum, All-head)
   | inr f ↦ large_any line n sizes ds (ap (λ b. b || list_any is_large ds) (sym f) ∙ e) (All-tail (IsInTable n) d ds table) (All-tail (HasRoom line sizes) d ds room)
 ]
 

@@ -1,5 +1,5 @@
 -- The cells of the critical path are those of the one path back from the end.
-use Rattle.std.proofs.Common.{◌≡◌, ◌∙◌, ◌≢◌, ℕ, zero, suc, ◌+◌, ◌-◌, ◌<◌, ◌≤◌, inl, inr, List, [], ◌∷◌, refl, sym, arith, eq-eqb, ne_eqb, Option, Some, None}
+use Rattle.std.proofs.Common.{◌≡◌, ◌∙◌, ℕ, zero, suc, ◌+◌, ◌-◌, ◌<◌, ◌≤◌, inl, inr, List, [], ◌∷◌, refl, sym, arith, eq-eqb, ne_eqb, Option, Some, None}
 use Rattle.std.specs.Prelude.{◌↔◌, All, reverse}
 use Rattle.std.proofs.lemmas.Bool.{cases_eq}
 use Rattle.std.proofs.lemmas.List.{reverse-reverse}
@@ -56,7 +56,6 @@ module _ (problem : Problem) (table : All (IsInTable problem.count) problem.dema
       elim (cases_eq (low (suc i)) (low i)) [
         | inl same ↦ rw (e, eq-eqb (low (suc i)) (low i) same) (same-back i (suc i) (met steps i) (omega arith) (sym same) (path-met steps i (omega arith)))
         | inr ne ↦
-            let ne' : low (suc i) ≢ low i = ne in
             let small : i ≤ steps = omega arith in
             rw (e, ne_eqb (low (suc i)) (low i) ne)
             (path-found i (met steps) (omega arith) (λ j l. path-met steps j (omega arith)) (found_at (suc i)) refl)
@@ -93,8 +92,6 @@ module _ (problem : Problem) (table : All (IsInTable problem.count) problem.dema
       elim (cases_eq (low (suc i)) (low i)) [
         | inl same ↦ rw (e, eq-eqb (low (suc i)) (low i) same) (only-met steps i cells (omega arith) (back-same i cells same path))
         | inr ne ↦
-            let ne' : low (suc i) ≢ low i = ne in
-            let small : i ≤ steps = omega arith in
             rw (e, ne_eqb (low (suc i)) (low i) ne) (past-met steps i (λ j cells l. only-met steps j cells (omega arith)) cells (omega arith) path)
       ]
 

@@ -108,7 +108,6 @@ module _ (problem : Problem) (kept : Demands) (is : AreGathered problem.count ke
 
     pub critical_path-met : StandInOrder problem.demands → reverse (map position_of (followed_cells boundary (kept_single kept.single_span.items) (kept_longer tight_cells) (length boundaries - 1) (length boundaries - 1))) ≡ map position_of (critical_path problem)
     critical_path-met in_order =
-        let many : length boundaries ≡ problem.count + 1 = are.many in
         let last : length boundaries - 1 ≡ problem.count = omega arith in
         ap (λ k. reverse (map position_of (followed_cells boundary (kept_single kept.single_span.items) (kept_longer tight_cells) k k))) last
         ∙ ap (λ ds. reverse (map position_of ds))

@@ -1,5 +1,5 @@
 -- Disjoint ranges split a total into their own sums and what lies outside of them.
-use Rattle.std.proofs.Common.{◌≡◌, ℕ, zero, suc, ◌+◌, ◌-◌, ◌<◌, ◌≤◌, Bool, true, false, cond, ◌⊎◌, inl, inr, List, [], ◌∷◌, sum_by, refl, arith}
+use Rattle.std.proofs.Common.{◌≡◌, ℕ, zero, suc, ◌+◌, ◌-◌, ◌<◌, ◌≤◌, Bool, true, false, cond, ◌⊎◌, inl, inr, List, [], ◌∷◌, sum_by, refl, arith, rules}
 use Rattle.std.specs.Prelude.{AllPairs, ⊤}
 use Rattle.std.specs.List.{AllByRecursion, list_any}
 use Rattle.std.proofs.lemmas.List.Sums.{sum_by-cons}
@@ -73,8 +73,6 @@ outside-cons f d ds i disjoint = grind (arith, holds_cases, not_covered)
 pub partition : (f : ℕ → ℕ) (n : ℕ) (ds : List Demand) → AllByRecursion (λ d. end_of d ≤ n) ds → ArePairwiseDisjoint ds → upto f n ≡ sum_by (within f) ds + upto (outside ds f) n
 partition f n [] inside disjoint = omega arith
 partition f n (d ∷ ds) inside disjoint =
-    let a : upto (outside ds f) n ≡ upto (λ i. masked f d i + outside (d ∷ ds) f i) n =
-    upto-ext (outside ds f) (λ i. masked f d i + outside (d ∷ ds) f i) n (λ i l. outside-cons f d ds i disjoint.0) in
-    let b : upto (λ i. masked f d i + outside (d ∷ ds) f i) n ≡ upto (masked f d) n + upto (outside (d ∷ ds) f) n =
-    upto-add (masked f d) (outside (d ∷ ds) f) n in
+    let a : upto (outside ds f) n ≡ upto (λ i. masked f d i + outside (d ∷ ds) f i) n = grind (arith, upto-ext, outside-cons) in
+    let b : upto (λ i. masked f d i + outside (d ∷ ds) f i) n ≡ upto (masked f d) n + upto (outside (d ∷ ds) f) n = search (rules, upto-add) in
     omega (arith, partition f n ds inside.1 disjoint.1, masked_sum f d n inside.0, sum_by-cons (within f) d ds)

@@ -59,8 +59,7 @@ module _ {line : ℕ → Bool} {n : ℕ} {kept : Demands} {demands : List Demand
     pub total-grown : sum sizes + all_lines drawn (length sizes) ≡ total_of problem sizes
     total-grown =
         let one_each : length sizes ≡ n = ap length shares-grown ∙ (Fits-sizes_of problem (table-all is_kept begun)).one_each in
-        let lines : all_lines drawn (length sizes) ≡ all_lines line n = ap (all_lines drawn) one_each ∙ lines-drawn drawn line n begun.drawn in
-        ap (λ k. sum sizes + k) lines
+        ap (λ k. sum sizes + k) (ap (all_lines drawn) one_each ∙ lines-drawn drawn line n begun.drawn)
 
     total-shares : total_of problem (sizes_of problem) ≡ sum sizes + all_lines drawn (length sizes)
     total-shares = sym (total-grown ∙ ap (total_of problem) shares-grown)

@@ -43,7 +43,6 @@ distributed_sum amount d one =
     let later : upto (λ i. share amount d (d.start + (1 + i))) k ≡ upto (λ i. amount / d.span) k =
     upto-ext (λ i. share amount d (d.start + (1 + i))) (λ i. amount / d.span) k (λ i l. share-later amount d (d.start + (1 + i)) (omega arith) (omega arith)) in
     let same : upto (λ i. amount / d.span) k ≡ k * (amount / d.span) = upto-same (amount / d.span) k in
-    let product : suc k * (amount / d.span) ≡ k * (amount / d.span) + amount / d.span = suc-mul k (amount / d.span) in
     let e' : d.span * (amount / d.span) ≡ suc k * (amount / d.span) = ap (λ m. m * (amount / d.span)) (let e' : d.span ≡ suc k = omega arith in e') in
     omega arith
 

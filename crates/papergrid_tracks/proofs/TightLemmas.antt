@@ -34,26 +34,14 @@ longer_tight_cell asks demands i = find (λ d. nat_lt 1 d.span && is_tight asks 
 pub find-agree : (p q : Demand → Bool) (ds : List Demand) → All (λ d. p d ≡ q d) ds → find p ds ≡ find q ds
 find-agree p q [] same = refl
 find-agree p q (d ∷ ds) same =
-    let here : p d ≡ q d = All-head (λ d. p d ≡ q d) d ds same in
-    let rest : find p ds ≡ find q ds = find-agree p q ds (All-tail (λ d. p d ≡ q d) d ds same) in
-    elim (cases_Bool (q d)) [
-      | inl t ↦ rw (here ∙ t, t) refl
-      | inr f ↦ rw (here ∙ f, f) rest
-    ]
+    grind (arith, cases_Bool (q d), All-head (λ d. p d ≡ q d) d ds same, find-agree p q ds (All-tail (λ d. p d ≡ q d) d ds same))
 
 -- where each cell that passes also passes a second test, it is found among those that pass the second
 find-kept : (p q : Demand → Bool) (ds : List Demand) → All (λ d. p d ≡ true → q d ≡ true) ds → find p ds ≡ find p (filter q ds)
 find-kept p q [] kept = refl
 find-kept p q (d ∷ ds) kept =
-    let here : p d ≡ true → q d ≡ true = All-head (λ d. p d ≡ true → q d ≡ true) d ds kept in
     let rest : find p ds ≡ find p (filter q ds) = find-kept p q ds (All-tail (λ d. p d ≡ true → q d ≡ true) d ds kept) in
-    elim (cases_Bool (p d)) [
-      | inl t ↦ rw (here t, t) refl
-      | inr f ↦ elim (cases_Bool (q d)) [
-        | inl t' ↦ rw (t', f) rest
-        | inr f' ↦ rw (f', f) rest
-      ]
-    ]
+    grind (arith, cases_Bool (p d), cases_Bool (q d), All-head (λ d. p d ≡ true → q d ≡ true) d ds kept, rest)
 
 with_earlier-agree : (found : Option Demand) (f g : ℕ → List Demand) → ((d : Demand) → found ≡ Some d → f d.start ≡ g d.start) → with_earlier found f ≡ with_earlier found g
 with_earlier-agree None f g same = refl
@@ -89,11 +77,9 @@ module _ (line drawn : ℕ → Bool) (n limit : ℕ) (demands : List Demand) (ag
         | inr f ↦ f
         | inl t ↦
             let parts : (eqb d.span 1 ≡ true) × (is_tight (net_minimum line) top (suc j) d ≡ true) = and_parts (eqb d.span 1) (is_tight (net_minimum line) top (suc j) d) t in
-            let one : d.span ≡ 1 = eqb-true d.span 1 parts.0 in
-            let known : (d.start ≡ j) × (top j + d.minimum ≡ top (suc j)) = alone j d one parts.1 in
+            let known : (d.start ≡ j) × (top j + d.minimum ≡ top (suc j)) = alone j d (eqb-true d.span 1 parts.0) parts.1 in
             let minimum : d.minimum ≤ base_size demands j = minimum-below_greatest (λ c. c.span == 1 && c.start == j) demands d listed (and_from _ _ parts.0 (eq-eqb d.start j known.0)) in
             let fits : top j + base_size demands j ≤ top (suc j) = base-fits j l in
-            let sum : top j + d.minimum ≡ top (suc j) = known.1 in
             absurd (ne (omega arith))
       ]
 
@@ -109,21 +95,12 @@ module _ (line drawn : ℕ → Bool) (n limit : ℕ) (demands : List Demand) (ag
         | inr ne ↦ rw (ne_eqb d.span 1 ne) refl
         | inl one ↦ elim (cases_eq d.start j) [
           | inr ne ↦
-              let ends : end_of d ≢ suc j = omega arith in
-              rw (eq-eqb d.span 1 one, ne_eqb (end_of d) (suc j) ends, ne_eqb d.start j ne) refl
+              rw (eq-eqb d.span 1 one, ne_eqb (end_of d) (suc j) (omega arith), ne_eqb d.start j ne) refl
           | inl here ↦
-              let ends : end_of d ≡ suc j = omega arith in
               let inner : inner_lines line d ≡ 0 = inner-alone line d one in
               let base_is : get_or (base_sizes n demands) j 0 ≡ base_size demands j = get_or-base_sizes n demands j l in
               let same : top d.start ≡ top j = ap top here in
-              elim (cases_eq d.minimum (get_or (base_sizes n demands) j 0)) [
-                | inl most ↦
-                    let sum : top d.start + net_minimum line d ≡ top (suc j) = omega arith in
-                    rw (eq-eqb d.span 1 one, eq-eqb (end_of d) (suc j) ends, eq-eqb d.start j here, eq-eqb d.minimum (get_or (base_sizes n demands) j 0) most, eq-eqb (top d.start + net_minimum line d) (top (suc j)) sum) refl
-                | inr ne ↦
-                    let sum : top d.start + net_minimum line d ≢ top (suc j) = omega arith in
-                    rw (eq-eqb d.span 1 one, eq-eqb (end_of d) (suc j) ends, eq-eqb d.start j here, ne_eqb d.minimum (get_or (base_sizes n demands) j 0) ne, ne_eqb (top d.start + net_minimum line d) (top (suc j)) sum) refl
-              ]
+              grind (arith, cases_eq d.minimum (get_or (base_sizes n demands) j 0), eq-eqb)
         ]
       ]
 
@@ -133,12 +110,9 @@ module _ (line drawn : ℕ → Bool) (n limit : ℕ) (demands : List Demand) (ag
     same_test i l d cell = elim (cases_eq (end_of d) i) [
       | inr ne ↦ rw (ne_eqb (end_of d) i ne) refl
       | inl ends ↦
-          let within : end_of d ≤ n = cell.ends_within in
           let inner : inner_lines drawn d ≡ inner_lines line d = inner-drawn drawn line n agree d cell in
-          let a : boundary d.start ≡ top d.start = boundaries_are d.start (omega arith) in
-          let b : boundary i ≡ top i = boundaries_are i l in
           let sum : top d.start + net_minimum line d ≡ boundary d.start + net_minimum drawn d = omega arith in
-          rw (eq-eqb (end_of d) i ends, sum, b) refl
+          rw (eq-eqb (end_of d) i ends, sum, (boundaries_are i l)) refl
     ]
 
     among_others : (i : ℕ) → i ≤ n → longer_tight_cell (net_minimum line) demands i ≡ find (is_tight (net_minimum drawn) boundary i) (rest_of limit demands)
@@ -152,18 +126,7 @@ module _ (line drawn : ℕ → Bool) (n limit : ℕ) (demands : List Demand) (ag
         kept d t = grind (arith, ltb-true, and_parts)
 
         at : (d : Demand) → IsInTable n d → not (is_single limit d) ≡ true → (nat_lt 1 d.span && is_tight (net_minimum line) top i d) ≡ is_tight (net_minimum drawn) boundary i d
-        at d cell passes = elim (cases_eq d.span 1) [
-          | inl one ↦
-              let some : 1 ≤ d.span = cell.covers_one in
-              let ends : end_of d ≤ n = cell.ends_within in
-              let within : d.start < limit = omega arith in
-              let single : is_single limit d ≡ true = and_from (eqb d.span 1) (nat_lt d.start limit) (eq-eqb d.span 1 one) (lt-ltb d.start limit within) in
-              absurd (true≢false (sym passes ∙ ap not single))
-          | inr ne ↦
-              let some : 1 ≤ d.span = cell.covers_one in
-              let long : 1 < d.span = omega arith in
-              rw (lt-ltb 1 d.span long) (same_test i l d cell)
-        ]
+        at d cell passes = grind (arith, cases_eq d.span 1, single, and_from, eq-eqb, lt-ltb, true≢false, same_test)
 
         listed : (d : Demand) → (not (is_single limit d) ≡ true) × IsInTable n d → (nat_lt 1 d.span && is_tight (net_minimum line) top i d) ≡ is_tight (net_minimum drawn) boundary i d
         listed d known = at d known.1 known.0
@@ -190,8 +153,6 @@ module _ (line drawn : ℕ → Bool) (n limit : ℕ) (demands : List Demand) (ag
       followed-is (suc steps) zero l = grind (arith, followed-even, followed-is steps 0 (omega arith))
       followed-is (suc steps) (suc j) l =
           let e : suc j - 1 ≡ j = omega arith in
-          let a : boundary (suc j) ≡ top (suc j) = boundaries_are (suc j) l in
-          let b : boundary j ≡ top j = boundaries_are j (omega arith) in
           let b' : boundary (suc j - 1) ≡ boundary j = ap boundary e in
           let rises : top j ≤ top (suc j) = lowest_position-rises (net_minimum line) demands j in
           elim (cases_eq (top (suc j)) (top j)) [

@@ -1,3 +1,4 @@
+use Rattle.std.proofs.Common.{arith}
 use Rattle.papergrid_text.specs.HeldRows.{column_count}
 use Rattle.papergrid_draw.specs.Margins.{printed}
 use Rattle.papergrid_draw.proofs.SinkLemmas.{draws-also}
@@ -17,8 +18,4 @@ returns-clause-picture g c =
     c.args.sink.now c.draw_records.new.sink c.draw_records.result c.draw_records.ensures
 
 pub returns-clause-room : goal.returns-clause-room
-returns-clause-room g c =
-    let columns = column_count c.args.records.now in
-    let texts = texts_held g.T.AsStr.text c.args.records.now in
-    picture-has-room g.W.Sink.contents g.W.Sink.has_failed g.W.Sink.has_stalled (IsDrawingWith columns texts c.args.sizing c.in_ok-config.config) printed
-    columns texts c.args.sizing c.in_ok-config.config c.args.sink.now c.draw_records.new.sink c.draw_records.result c.draw_records.ensures
+returns-clause-room g c = grind (arith, picture-has-room)

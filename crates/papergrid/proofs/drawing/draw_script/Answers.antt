@@ -1,8 +1,7 @@
-use Rattle.std.proofs.Common.{◌∙◌, Err, Ok, ap}
+use Rattle.std.proofs.Common.{◌∙◌, Err, ap, rules}
 use Rattle.std.specs.Prelude.{⊤}
 use Rattle.papergrid_script.specs.Outputs.{bad_line_text}
-use Rattle.papergrid.specs.Pictures.{IsPictureRun, IsTablePicture}
-use Rattle.papergrid_script.specs.Seen.{table_seen}
+use Rattle.papergrid.specs.Pictures.{IsPictureRun}
 use Rattle.papergrid_script.proofs.RunLemmas.{runs-also}
 use Rattle.papergrid.proofs.drawing.draw_script.Goals as goal
 
@@ -16,6 +15,4 @@ returns-in-Err-Bad g c =
 pub returns : goal.returns
 returns g c =
     let is = rw c.in-Ok.is at c.read_script.ensures.script in
-    runs-also g.W.Sink.contents g.W.Sink.has_failed g.W.Sink.has_stalled (λ _. ⊤) (IsTablePicture c.args.sizing (table_seen c.in-Ok.script)) (IsPictureRun c.args.sizing c.args.input.now)
-    (λ end output so. (Ok (table_seen c.in-Ok.script), is, so))
-    c.args.writer.now c.draw_read.new.writer c.draw_read.result c.draw_read.ensures
+    search (rules, runs-also)

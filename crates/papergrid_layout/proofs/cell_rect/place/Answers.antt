@@ -1,29 +1,9 @@
-use Rattle.std.proofs.Common.{inl, inr, sym}
+use Rattle.std.proofs.Common.{sym}
 use Rattle.papergrid_values.specs.declared.direction.Direction.TheVariants.{Columns, Rows}
 use Rattle.papergrid_config.specs.Grids.{spanned_grid}
 use Rattle.papergrid_layout.specs.Places.{table_by}
-use Rattle.papergrid_layout.proofs.PlaceSums.{has-place, is-inside, too-large, within-total}
+use Rattle.papergrid_layout.proofs.PlaceSums.{has-place, within-total}
 use Rattle.papergrid_layout.proofs.cell_rect.place.Goals as goal
-
-pub part-requires-clause-sizes : goal.part-requires-clause-sizes
-part-requires-clause-sizes g c = c.requires.columns
-
-pub part-requires-2-clause-sizes : goal.part-requires-2-clause-sizes
-part-requires-2-clause-sizes g c = c.requires.rows
-
-pub returns-in_default-clause-exact : goal.returns-in_default-clause-exact
-returns-in_default-clause-exact g c = (
-  is-inside (table_by c.args.config.now (g.D.Dimension.width_of c.args.dimension.now) (g.D.Dimension.height_of c.args.dimension.now) c.args.shape) c.args.position (sym c.if-not-is_visible.ensures)
-      c.if-overflows.ensures c.if-overflows-2.ensures,
-  inr (too-large c.part-2.result _ _ c.in_default.is-1 c.part-2.ensures),
-)
-
-pub returns-in_default-2-clause-exact : goal.returns-in_default-2-clause-exact
-returns-in_default-2-clause-exact g c = (
-  is-inside (table_by c.args.config.now (g.D.Dimension.width_of c.args.dimension.now) (g.D.Dimension.height_of c.args.dimension.now) c.args.shape) c.args.position (sym c.if-not-is_visible.ensures)
-      c.if-overflows.ensures c.if-overflows-2.ensures,
-  inl (too-large c.part.result _ _ c.in_default.is-0 c.part.ensures),
-)
 
 pub returns-in-Some-Some-clause-within : goal.returns-in-Some-Some-clause-within
 returns-in-Some-Some-clause-within g c =

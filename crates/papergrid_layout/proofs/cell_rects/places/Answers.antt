@@ -1,38 +1,26 @@
-use Rattle.std.proofs.Common.{◌∙◌, inl, inr, refl, sym}
+use Rattle.std.proofs.Common.{inl, inr, refl, arith}
 use Rattle.std.proofs.lemmas.Bool.{false≢true}
 use Rattle.std.specs.Prelude.{All}
 use Rattle.std.proofs.lemmas.Result.{IfErr-weaker, IfOk-weaker}
-use Rattle.papergrid_layout.specs.Places.{ArePlacesRefused, EndsWithin, HaveAllPlaces, table_by}
+use Rattle.papergrid_layout.specs.Places.{EndsWithin, HaveAllPlaces, table_by}
 use Rattle.papergrid_layout.proofs.PlacingLemmas.{all-end-within, first-shown, none-placed}
 use Rattle.papergrid_layout.proofs.cell_rects.places.Goals.{then-rows-eq0-via-else-rows-eq0+then-columns-eq0, then-rows-eq0-via-then-rows-eq0}
 use Rattle.papergrid_layout.proofs.cell_rects.places.Goals as goal
 
 pub returns-then-rows-eq0-clause-ok : goal.returns-then-rows-eq0-clause-ok
-returns-then-rows-eq0-clause-ok g c =
-    rw c.new.ensures.items (none-placed (table_by c.args.config.now (g.D.Dimension.width_of c.args.dimension.now) (g.D.Dimension.height_of c.args.dimension.now) c.args.shape)
-    (elim c.then-rows-eq0.branch [
-      | then-rows-eq0-via-then-rows-eq0 w ↦ inl w.if-rows-eq0.true
-      | then-rows-eq0-via-else-rows-eq0+then-columns-eq0 w ↦ inr w.if-columns-eq0.true
-    ]))
+returns-then-rows-eq0-clause-ok g c = grind (arith, none-placed, then-rows-eq0-via-then-rows-eq0, then-rows-eq0-via-else-rows-eq0+then-columns-eq0)
 
 pub returns-then-rows-eq0-clause-within : goal.returns-then-rows-eq0-clause-within
-returns-then-rows-eq0-clause-within g c =
-    all-end-within (table_by c.args.config.now (g.D.Dimension.width_of c.args.dimension.now) (g.D.Dimension.height_of c.args.dimension.now) c.args.shape)
-    _ (returns-then-rows-eq0-clause-ok g c)
+returns-then-rows-eq0-clause-within g c = grind (arith, all-end-within, returns-then-rows-eq0-clause-ok)
 
 pub unreachable-requires : goal.unreachable-requires
-unreachable-requires g c =
-    false≢true (sym (rw c.in-Err-Hidden.field-0-is at c.in-Err-Hidden.ensures.exact) ∙ first-shown c.args.config.now)
+unreachable-requires g c = grind (arith, false≢true, first-shown)
 
 pub visit_rows-requires : goal.visit_rows-requires
-visit_rows-requires g c =
-    let table = table_by c.args.config.now (g.D.Dimension.width_of c.args.dimension.now) (g.D.Dimension.height_of c.args.dimension.now) c.args.shape in
-    record { placed = (table, refl, c.in_ok-placing.ensures) }
+visit_rows-requires g c = grind arith
 
 pub returns-clause-err : goal.returns-clause-err
-returns-clause-err g c =
-    let table = table_by c.args.config.now (g.D.Dimension.width_of c.args.dimension.now) (g.D.Dimension.height_of c.args.dimension.now) c.args.shape in
-    IfErr-weaker c.visit_rows.result _ (ArePlacesRefused table) (λ error refused. refused table refl c.in_ok-placing.ensures) c.visit_rows.ensures.err
+returns-clause-err g c = grind (arith, IfErr-weaker)
 
 pub returns-clause-ok : goal.returns-clause-ok
 returns-clause-ok g c =

@@ -1,5 +1,5 @@
 use Rattle.std.proofs.Common.{◌∙◌, sym}
-use Rattle.papergrid_layout.proofs.CheckSteps.{check_hidden, check_same, check_shown}
+use Rattle.papergrid_layout.proofs.CheckSteps.{check_same, check_shown}
 use Rattle.papergrid_layout.proofs.check.check_cell.Goals as goal
 
 pub returns-then-is_unchanged-clause-checks : goal.returns-then-is_unchanged-clause-checks
@@ -11,9 +11,3 @@ pub returns-then-is_shown-clause-checks : goal.returns-then-is_shown-clause-chec
 returns-then-is_shown-clause-checks g c =
     check_shown (g.S.ConfigView.grid c.args.settings.now) c.args.candidate.now g.M.Measure.measured c.args.checked c.visit-visited.result c.args.position c.args.cell.now _ _
     (sym c.is_shown.ensures ∙ c.if-is_shown.true) c.measure_along-size.ensures c.minimum_along-minimum.ensures.sum c.visit-visited.ensures.checks
-
-pub returns-else-is_shown-clause-checks : goal.returns-else-is_shown-clause-checks
-returns-else-is_shown-clause-checks g c =
-    let candidate = c.args.candidate.now in
-    let grid = g.S.ConfigView.grid c.args.settings.now in
-    check_hidden grid candidate g.M.Measure.measured c.args.checked c.args.position c.args.cell.now (sym c.is_shown.ensures ∙ c.if-is_shown.false)

@@ -14,12 +14,7 @@ loop-i-init g c = λ table same marked fit.
     (subst (λ grid. Shows grid walk 0 0) (sym same) c.in_ok-sweep_of.ensures) refl c.new.ensures.items
 
 pub visit-requires : goal.visit-requires
-visit-requires g c =
-    let anchors = c.in_ok-anchors.anchors.items in
-    let within : c.loop-i.i < length anchors = omega (arith, c.len-i-end.ensures, c.loop-i-test.true) in
-    let at : slice_get anchors c.loop-i.i ≡ Some c.index.result.now = slice_get-get_or anchors c.loop-i.i c.index.result.now within ∙ ap Some (sym c.index.ensures) in
-    let has = c.loop-i.invariant c.requires.0 c.requires.1 c.requires.2 c.requires.3 in
-    (c.requires.0, c.requires.2, c.requires.3, has.shows c.loop-i.i c.index.result.now (omega arith) at)
+visit-requires g c = grind (arith, slice_get-get_or)
 
 pub loop-i-preserved : goal.loop-i-preserved
 loop-i-preserved g c = λ table same marked fit.

@@ -12,6 +12,4 @@ returns-then-bytes-at-clause-parts c =
     ∙ last_there c.args.text.now c.args.byte (c.loop-at.at - 1) (omega (arith, some, within)) there (λ k from to. passed.none k (omega (arith, some, from)) to)
 
 pub returns-clause-parts : goal.returns-clause-parts
-returns-clause-parts c =
-    let end = c.loop-at-test.false in
-    last_missing c.args.text.now c.args.byte (λ k to. c.loop-at.invariant.none k (omega (arith, end)) to)
+returns-clause-parts c = grind (arith, last_missing)

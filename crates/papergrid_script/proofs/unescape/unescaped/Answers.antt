@@ -1,5 +1,4 @@
-use Rattle.std.proofs.Common.{◌≡◌, ◌<◌, ◌+◌, ℕ, List, length, take, drop, Option, IfOk, option_map, sym, subst, ap, ◌∙◌, arith}
-use Rattle.std.specs.List.{position_or_len}
+use Rattle.std.proofs.Common.{◌≡◌, ◌<◌, ◌+◌, ℕ, List, length, take, drop, Option, IfOk, option_map, sym, subst, arith}
 use Rattle.papergrid_text.proofs.Places.{is_there}
 use Rattle.papergrid_script.specs.Texts.{backslash}
 use Rattle.papergrid_script.specs.ForProofs.Escapes.{IsFirstEscape}
@@ -7,10 +6,7 @@ use Rattle.papergrid_script.proofs.EscapeLemmas.{IsCut, is_backslash, cut_open, 
 use Rattle.papergrid_script.proofs.unescape.unescaped.Goals as goal
 
 pub returns-then-spelled-escape : goal.returns-then-spelled-escape
-returns-then-spelled-escape c =
-    let first = c.requires in
-    let none = c.if-spelled-escape.true in
-    sym (unescaped-whole c.args.spelled.now (omega arith))
+returns-then-spelled-escape c = grind (arith, unescaped-whole)
 
 pub split_around-requires-clause-ascii : goal.split_around-requires-clause-ascii
 split_around-requires-clause-ascii c =
@@ -20,9 +16,7 @@ split_around-requires-clause-ascii c =
     omega arith
 
 cut_there : (spelled plain after : List ℕ) (at : ℕ) → IsFirstEscape spelled at → at < length spelled → plain ≡ take at spelled → after ≡ drop (at + 1) spelled → IsCut spelled plain after
-cut_there spelled plain after at first within before behind =
-    let position : at ≡ position_or_len is_backslash spelled = omega arith in
-    (before ∙ ap (λ k. take k spelled) position, behind ∙ ap (λ k. drop (k + 1) spelled) position, omega arith)
+cut_there spelled plain after at first within before behind = grind (arith, is_backslash)
 
 pub returns : goal.returns
 returns c =

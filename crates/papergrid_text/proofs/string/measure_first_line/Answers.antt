@@ -30,7 +30,6 @@ returns-then-as_bytes-printable-eq10-clause-first c =
     let text = c.args.text.now in
     let n = c.args.printable in
     let is = c.requires in
-    let within = falls_short c.args.text.now _ c.requires c.if-printable-text.false in
     let newline : get_or text n 0 ≡ 10 = ap (λ bytes. get_or bytes n 0) (sym c.as_bytes.ensures.value) ∙ c.if-as_bytes-printable-eq10.true in
     let place = is ∙ sym (first_newline text (omega arith) (ap (λ k. get_or text k 0) (sym is) ∙ newline)) in
     (take n text, split_first text (take n text) c.range_from.result.now (omega arith) (ap (λ k. take k text) place) (c.range_from.ensures.value ∙ ap (λ k. drop (k + 1) text) place), front_width text n is)

@@ -1,4 +1,4 @@
-use Rattle.std.proofs.Common.{◌≡◌, ◌∙◌, ap, Bool, cond, get_or, true, false, refl, sym, arith}
+use Rattle.std.proofs.Common.{◌≡◌, ◌∙◌, ap, Bool, cond, true, false, refl, sym, arith}
 use mir.Val.{bool_byte}
 use Rattle.papergrid_tracks.proofs.CandidateLemmas.{is_same, listed-at, listed-none}
 use Rattle.papergrid_tracks.proofs.candidate.count_rising.Goals as goal
@@ -14,6 +14,5 @@ returns-in_default c =
 pub returns : goal.returns
 returns c =
     let listed = c.in-Some.ensures.lookup in
-    let same : c.eq.result ≡ is_same c.args.position (get_or c.args.positions.now c.index_rising-at.result c.in-Some.listed.now) = c.eq.ensures ∙ ap (is_same c.args.position) listed.1 in
-    c.from.ensures ∙ bit_of c.eq.result ∙ ap (λ b. cond b 1 0) same
+    c.from.ensures ∙ bit_of c.eq.result ∙ ap (λ b. cond b 1 0) (c.eq.ensures ∙ ap (is_same c.args.position) listed.1)
     ∙ sym (listed-at c.args.direction c.args.positions.now c.args.position c.index_rising-at.result c.requires (rw c.number_of.ensures at c.index_rising-at.ensures) c.in-Some.listed.now (omega arith))

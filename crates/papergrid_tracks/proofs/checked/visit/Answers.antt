@@ -1,7 +1,7 @@
-use Rattle.std.proofs.Common.{◌≡◌, ℕ, ◌+◌, ◌<◌, ◌≤◌, ◌∷◌, ◌++◌, [], ◌∙◌, sym, refl, subst, subst₂, arith, length, slice_index, true}
+use Rattle.std.proofs.Common.{◌≡◌, ℕ, ◌+◌, ◌<◌, ◌≤◌, ◌∷◌, ◌++◌, [], ◌∙◌, sym, refl, subst, subst₂, arith, length, slice_index}
 use Rattle.std.proofs.lemmas.Bool.{not-true, true≢false}
 use Rattle.papergrid_tracks.specs.ForProofs.Checks.{Checks, range_of, times_listed}
-use Rattle.papergrid_tracks.specs.Fits.{HasRoom, range_sum}
+use Rattle.papergrid_tracks.specs.Fits.{HasRoom}
 use Rattle.papergrid_values.specs.Positions.{along}
 use Rattle.papergrid_tracks.specs.Ranges.{demand_of, inner_lines}
 use Rattle.papergrid_tracks.proofs.CandidateLemmas.{rising-from_order}
@@ -20,8 +20,7 @@ returns-then-has_room_alone-clause-checks g c = λ demands before.
     let below : along candidate.direction c.args.position < length candidate.sizes.now = omega (arith, at, alone.1) in
     let stays = c.requires.ordered.within alone.0 c.args.position below in
     let enough : c.args.minimum ≤ slice_index candidate.sizes.now (along candidate.direction c.args.position) = subst (λ s. c.args.minimum ≤ slice_index candidate.sizes.now s) at alone.2 in
-    let first : slice_index candidate.sizes.now (along candidate.direction c.args.position) ≤ range_sum candidate.sizes.now d = first_of_range candidate.sizes.now d stays.0 below in
-    let has : HasRoom line candidate.sizes.now d = omega (arith, enough, first) in
+    let has : HasRoom line candidate.sizes.now d = omega (arith, enough, first_of_range candidate.sizes.now d stays.0 below) in
     let none : times_listed candidate.positions.now d ≡ 0 = sym c.count_listed-times.ensures ∙ c.if-times-eq0.true in
     let few : c.args.checked.found + times_listed candidate.positions.now d ≤ length candidate.positions.now = omega (arith, none, c.requires.bounded.few) in
     let inside : along candidate.direction c.args.position + span_of c.args.position ≤ length candidate.sizes.now = stays.1 in

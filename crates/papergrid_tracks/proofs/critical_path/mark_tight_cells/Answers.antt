@@ -1,4 +1,4 @@
-use Rattle.std.proofs.Common.{◌-◌, arith}
+use Rattle.std.proofs.Common.{arith}
 use Rattle.papergrid_tracks.proofs.FollowedLemmas.{first-kept, first-written}
 use Rattle.papergrid_tracks.proofs.critical_path.mark_tight_cells.Goals as goal
 use Rattle.papergrid_tracks.proofs.critical_path.mark_tight_cells.Goals.{then-is_tight, else-is_tight}

@@ -40,7 +40,6 @@ returns c = λ problem is are in_order.
     let first : (i : ℕ) → i < length c.mark_tight_cells.new.tight_cells → get_or c.mark_tight_cells.new.tight_cells i None ≡ find (is_tight (net_minimum (line_at c.args.lines.now)) (λ i. get_or c.args.lowest_position.now i 0) i) c.args.kept.now.rest.items =
     rw c.deref.ensures.value at c.mark_tight_cells.ensures.first in
     let tight_cells_are : c.deref-3.result.now ≡ c.mark_tight_cells.new.tight_cells = c.deref-3.ensures.value ∙ with_items_is c.in_ok-tight_cells.tight_cells c.mark_tight_cells.new.tight_cells (omega arith) in
-    let met = rw (c.deref-2.ensures.value, tight_cells_are) at c.in_ok-positions.ensures in
-    let exact = c.reverse.ensures.items ∙ ap reverse met
+    let exact = c.reverse.ensures.items ∙ ap reverse (rw (c.deref-2.ensures.value, tight_cells_are) at c.in_ok-positions.ensures)
     ∙ critical_path-met problem c.args.kept.now is c.requires.small c.args.lines.now c.args.lowest_position.now are c.mark_tight_cells.new.tight_cells many first in_order in
     subst (AreCriticalPath problem) (sym exact) (AreCriticalPath-critical_path problem are.table are.none_out are.total)

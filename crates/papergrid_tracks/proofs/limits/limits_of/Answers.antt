@@ -29,8 +29,7 @@ lowest_of-requires-clause-table c =
 
 pub returns-in_err-lowest_position-clause-refused : goal.returns-in_err-lowest_position-clause-refused
 returns-in_err-lowest_position-clause-refused c =
-    let moved : IsPermutation (map (with_net_minimum (net_minimum (line_at c.args.lines.now))) c.args.cells.now) c.deref.result.now =
-    subst (IsPermutation (map (with_net_minimum (net_minimum (line_at c.args.lines.now))) c.args.cells.now)) (sym c.deref.ensures.value) (subst (λ xs. IsPermutation xs c.sort_by_end.new.cells.items) c.in_ok-ordered.ensures c.in_ok-sort_by_end.ensures.permutation) in
+    let moved : IsPermutation (map (with_net_minimum (net_minimum (line_at c.args.lines.now))) c.args.cells.now) c.deref.result.now = grind arith in
     let past : ((boundary : ℕ → ℕ) → AreLaid c.args.base.now c.deref.result.now boundary → 18446744073709551616 ≤ boundary (length c.args.base.now)) →
     ((boundary : ℕ → ℕ) → AreLaid c.args.base.now (map (with_net_minimum (net_minimum (line_at c.args.lines.now))) c.args.cells.now) boundary → 18446744073709551616 ≤ boundary (length c.args.base.now) + all_lines (line_at c.args.lines.now) (length c.args.base.now)) =
     λ large boundary are. let l : 18446744073709551616 ≤ boundary (length c.args.base.now) = large boundary (AreLaid-permuted c.args.base.now (map (with_net_minimum (net_minimum (line_at c.args.lines.now))) c.args.cells.now) c.deref.result.now moved boundary are) in omega arith in
@@ -40,8 +39,7 @@ returns-in_err-lowest_position-clause-refused c =
 
 pub returns-in_default-clause-refused : goal.returns-in_default-clause-refused
 returns-in_default-clause-refused c = λ boundary are.
-    let moved : IsPermutation (map (with_net_minimum (net_minimum (line_at c.args.lines.now))) c.args.cells.now) c.deref.result.now =
-    subst (IsPermutation (map (with_net_minimum (net_minimum (line_at c.args.lines.now))) c.args.cells.now)) (sym c.deref.ensures.value) (subst (λ xs. IsPermutation xs c.sort_by_end.new.cells.items) c.in_ok-ordered.ensures c.in_ok-sort_by_end.ensures.permutation) in
+    let moved : IsPermutation (map (with_net_minimum (net_minimum (line_at c.args.lines.now))) c.args.cells.now) c.deref.result.now = grind arith in
     let below : get_or c.in_ok-lowest_position.lowest_position.items (length c.args.base.now) 0 ≤ boundary (length c.args.base.now) =
     c.in_ok-lowest_position.ensures.lowest_position.below boundary (AreLaid-permuted c.args.base.now (map (with_net_minimum (net_minimum (line_at c.args.lines.now))) c.args.cells.now) c.deref.result.now moved boundary are) (length c.args.base.now) (omega arith) in
     let lines : c.count.result ≡ all_lines (line_at c.args.lines.now) (length c.args.base.now) = c.count.ensures ∙ all_lines-drawn c.args.lines.now (length c.args.base.now) c.requires.lines in
@@ -58,13 +56,11 @@ pub highest_of-requires-clause-table : goal.highest_of-requires-clause-table
 highest_of-requires-clause-table c =
     let moved : IsPermutation (map (with_net_minimum (net_minimum (line_at c.args.lines.now))) c.args.cells.now) c.deref-2.result.now =
     subst (IsPermutation (map (with_net_minimum (net_minimum (line_at c.args.lines.now))) c.args.cells.now)) (sym c.deref-2.ensures.value) (IsPermutation-trans (map (with_net_minimum (net_minimum (line_at c.args.lines.now))) c.args.cells.now) c.sort_by_end.new.cells.items c.sort_later_first.new.cells.items (subst (λ xs. IsPermutation xs c.sort_by_end.new.cells.items) c.in_ok-ordered.ensures c.in_ok-sort_by_end.ensures.permutation) c.in_ok-sort_later_first.ensures.permutation) in
-    All-permutation (IsInTable (length c.args.base.now)) (map (with_net_minimum (net_minimum (line_at c.args.lines.now))) c.args.cells.now) c.deref-2.result.now moved
-    (table-carrying (net_minimum (line_at c.args.lines.now)) (length c.args.base.now) c.args.cells.now c.requires.table)
+    search (rules, All-permutation, moved, table-carrying)
 
 pub highest_of-requires-clause-room : goal.highest_of-requires-clause-room
 highest_of-requires-clause-room c =
-    let moved : IsPermutation (map (with_net_minimum (net_minimum (line_at c.args.lines.now))) c.args.cells.now) c.deref.result.now =
-    subst (IsPermutation (map (with_net_minimum (net_minimum (line_at c.args.lines.now))) c.args.cells.now)) (sym c.deref.ensures.value) (subst (λ xs. IsPermutation xs c.sort_by_end.new.cells.items) c.in_ok-ordered.ensures c.in_ok-sort_by_end.ensures.permutation) in
+    let moved : IsPermutation (map (with_net_minimum (net_minimum (line_at c.args.lines.now))) c.args.cells.now) c.deref.result.now = grind arith in
     let moved_again : IsPermutation (map (with_net_minimum (net_minimum (line_at c.args.lines.now))) c.args.cells.now) c.deref-2.result.now =
     subst (IsPermutation (map (with_net_minimum (net_minimum (line_at c.args.lines.now))) c.args.cells.now)) (sym c.deref-2.ensures.value) (IsPermutation-trans (map (with_net_minimum (net_minimum (line_at c.args.lines.now))) c.args.cells.now) c.sort_by_end.new.cells.items c.sort_later_first.new.cells.items (subst (λ xs. IsPermutation xs c.sort_by_end.new.cells.items) c.in_ok-ordered.ensures c.in_ok-sort_by_end.ensures.permutation) c.in_ok-sort_later_first.ensures.permutation) in
     let many : length c.in_ok-lowest_position.lowest_position.items ≡ length c.args.base.now + 1 = c.in_ok-lowest_position.ensures.lowest_position.one_more in
@@ -78,18 +74,8 @@ highest_of-requires-clause-room c =
 
 pub returns-clause-limits : goal.returns-clause-limits
 returns-clause-limits c =
-    let moved : IsPermutation (map (with_net_minimum (net_minimum (line_at c.args.lines.now))) c.args.cells.now) c.deref.result.now =
-    subst (IsPermutation (map (with_net_minimum (net_minimum (line_at c.args.lines.now))) c.args.cells.now)) (sym c.deref.ensures.value) (subst (λ xs. IsPermutation xs c.sort_by_end.new.cells.items) c.in_ok-ordered.ensures c.in_ok-sort_by_end.ensures.permutation) in
     let moved_again : IsPermutation (map (with_net_minimum (net_minimum (line_at c.args.lines.now))) c.args.cells.now) c.deref-2.result.now =
     subst (IsPermutation (map (with_net_minimum (net_minimum (line_at c.args.lines.now))) c.args.cells.now)) (sym c.deref-2.ensures.value) (IsPermutation-trans (map (with_net_minimum (net_minimum (line_at c.args.lines.now))) c.args.cells.now) c.sort_by_end.new.cells.items c.sort_later_first.new.cells.items (subst (λ xs. IsPermutation xs c.sort_by_end.new.cells.items) c.in_ok-ordered.ensures c.in_ok-sort_by_end.ensures.permutation) c.in_ok-sort_later_first.ensures.permutation) in
     let lines : c.count.result ≡ all_lines (line_at c.args.lines.now) (length c.args.base.now) = c.count.ensures ∙ all_lines-drawn c.args.lines.now (length c.args.base.now) c.requires.lines in
-    let many : length c.in_ok-lowest_position.lowest_position.items ≡ length c.args.base.now + 1 = c.in_ok-lowest_position.ensures.lowest_position.one_more in
-    let total : c.index-last.result.now ≡ get_or c.in_ok-lowest_position.lowest_position.items (length c.args.base.now) 0 =
-    c.index-last.ensures ∙ get_or_default c.in_ok-lowest_position.lowest_position.items (length c.args.base.now) c.index-last.result.now 0 (omega arith) in
     let highest_position : AreHighestBoundaries c.args.base.now (map (with_net_minimum (net_minimum (line_at c.args.lines.now))) c.args.cells.now) c.index-last.result.now c.in_ok-highest_position.highest_position.items = AreHighestBoundaries-unpermuted c.args.base.now (map (with_net_minimum (net_minimum (line_at c.args.lines.now))) c.args.cells.now) c.deref-2.result.now moved_again c.index-last.result.now c.in_ok-highest_position.highest_position.items c.in_ok-highest_position.ensures in
-    record {
-      lowest_position = AreLowestBoundaries-unpermuted c.args.base.now (map (with_net_minimum (net_minimum (line_at c.args.lines.now))) c.args.cells.now) c.deref.result.now moved c.in_ok-lowest_position.lowest_position.items c.in_ok-lowest_position.ensures.lowest_position;
-      highest_position = subst (λ total. AreHighestBoundaries c.args.base.now (map (with_net_minimum (net_minimum (line_at c.args.lines.now))) c.args.cells.now) total c.in_ok-highest_position.highest_position.items) total highest_position;
-      total = grind (arith, common_steps, lines, total);
-      fits = grind (arith, common_steps, lines, total);
-    }
+    grind (arith, AreLowestBoundaries-unpermuted, highest_position, common_steps, lines)

@@ -4,8 +4,7 @@ use Rattle.papergrid_layout.proofs.MarkLemmas.{none-in-first, track-tested}
 use Rattle.papergrid_layout.proofs.marks.Marks.track_at.Goals as goal
 
 pub returns-in_err-track : goal.returns-in_err-track
-returns-in_err-track c = λ size line count are fits.
-    rw c.from_residual.ensures (λ i has. none-in-first size line c.args.point i (c.in_err-track.ensures size line count are fits) has.1)
+returns-in_err-track c = grind (arith, none-in-first)
 
 pub returns : goal.returns
 returns c = λ size line count are fits.

@@ -1,4 +1,4 @@
-use Rattle.std.proofs.Common.{◌+◌, ◌<◌, arith}
+use Rattle.std.proofs.Common.{arith}
 use Rattle.papergrid_layout.proofs.PlaceSums.{next-begin}
 use Rattle.papergrid_layout.proofs.ruler.Ruler.number_at.Goals as goal
 
@@ -13,12 +13,7 @@ overflow_add-begin-in-loop-i g c =
     omega (arith, next.1, c.requires.fits)
 
 pub returns-then-point-begin-2 : goal.returns-then-point-begin-2
-returns-then-point-begin-2 g c =
-    let next = next-begin _ _ c.args.self.now.count c.loop-i.i c.loop-i.begin c.size.result c.line.result (omega arith) c.loop-i.invariant.reached c.size.ensures c.line.ensures in
-    let before : c.args.point < c.loop-i.begin + (c.size.result + c.line.result) = c.if-point-begin-2.true in
-    (omega arith, omega (arith, c.loop-i.invariant.reached), omega (arith, next.0, before))
+returns-then-point-begin-2 g c = grind (arith, next-begin)
 
 pub loop-i-preserved : goal.loop-i-preserved
-loop-i-preserved g c =
-    let next = next-begin _ _ c.args.self.now.count c.loop-i.i c.loop-i.begin c.size.result c.line.result (omega arith) c.loop-i.invariant.reached c.size.ensures c.line.ensures in
-    record { reached = omega (arith, next.0); passed = omega arith }
+loop-i-preserved g c = grind (arith, next-begin)

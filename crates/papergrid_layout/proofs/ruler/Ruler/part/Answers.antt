@@ -1,21 +1,13 @@
-use Rattle.std.proofs.Common.{◌≡◌, ◌∙◌, ◌+◌, ◌-◌, ap, ap₂, arith}
+use Rattle.std.proofs.Common.{◌≡◌, ◌∙◌, ◌-◌, ap, ap₂, arith}
 use Rattle.papergrid_layout.specs.Places.{extent, offset, size_along}
 use Rattle.papergrid_layout.proofs.PlaceSums.{none-of, part-of, past-total}
 use Rattle.papergrid_layout.proofs.ruler.Ruler.part.Goals as goal
 
-pub overflow_add-end : goal.overflow_add-end
-overflow_add-end g c = omega (arith, c.number_of-start.ensures, c.span.ensures.value, c.requires.inside)
-
 pub returns-in_err-offset : goal.returns-in_err-offset
-returns-in_err-offset g c =
-    none-of c.from_residual.result _ _ c.from_residual.ensures
-    (past-total _ _ c.number_of-start.result c.args.self.now.count (omega (arith, c.number_of-start.ensures, c.requires.inside)) c.in_err-offset.ensures)
+returns-in_err-offset g c = grind (arith, none-of, past-total)
 
 pub returns-in_err-next : goal.returns-in_err-next
-returns-in_err-next g c =
-    none-of c.from_residual-in_err-next.result _ _ c.from_residual-in_err-next.ensures
-    (past-total _ _ (c.number_of-start.result + c.span.result) c.args.self.now.count
-    (omega (arith, c.number_of-start.ensures, c.span.ensures.value, c.requires.inside)) c.in_err-next.ensures)
+returns-in_err-next g c = grind (arith, none-of, past-total)
 
 pub overflow_sub-result : goal.overflow_sub-result
 overflow_sub-result g c =

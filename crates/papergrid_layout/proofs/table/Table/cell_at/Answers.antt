@@ -1,6 +1,5 @@
-use Rattle.std.proofs.Common.{◌↔◌, subst, sym}
-use Rattle.std.specs.Prelude.{IsTrue}
-use Rattle.papergrid_layout.specs.Places.{IsFirstOver, StandsOver}
+use Rattle.std.proofs.Common.{subst, sym, arith}
+use Rattle.papergrid_layout.specs.Places.{IsFirstOver}
 use Rattle.papergrid_layout.specs.ForProofs.Points.{LiesInEach}
 use Rattle.papergrid_layout.specs.Tables.{TableParts, view_of}
 use Rattle.papergrid_layout.proofs.PointLemmas.{none-but-visible, one-tested}
@@ -8,14 +7,7 @@ use Rattle.papergrid_layout.proofs.SpanningLemmas.{cover-in-row, first-over}
 use Rattle.papergrid_layout.proofs.table.Table.cell_at.Goals as goal
 
 pub returns-then-is_visible : goal.returns-then-is_visible
-returns-then-is_visible c =
-    let table = view_of (record { config = c.self.inside.config.now; widths = c.self.inside.sizes.columns.items; heights = c.self.inside.sizes.rows.items }) in
-    let lies = subst (λ (t : TableParts). LiesInEach (view_of t) c.args.column c.args.line c.in_ok-within.within) (sym c.self.view_is) c.in_ok-within.ensures in
-    let says = subst (λ (t : TableParts). IsTrue c.stands_over.result ↔ StandsOver (view_of t) c.args.column c.args.line c.in_ok-within.within) (sym c.self.view_is) c.stands_over.ensures in
-    subst (λ (t : TableParts). IsFirstOver (view_of t) c.args.column c.args.line c.then_some.result) c.self.view_is
-    (rw c.then_some.ensures
-    (one-tested table c.args.column c.args.line c.in_ok-within.within c.stands_over.result says
-    (λ q over. none-but-visible c.self.inside.config.now c.in_ok-within.within q (sym c.if-is_visible.ensures) (lies q over))))
+returns-then-is_visible c = grind (arith, one-tested, none-but-visible)
 
 pub first_covering-requires : goal.first_covering-requires
 first_covering-requires c =

@@ -1,22 +1,8 @@
 use Rattle.std.proofs.Common.{refl}
-use Rattle.std.proofs.lemmas.Result.{err_from_is_err_and}
-use Rattle.papergrid_values.specs.declared.direction.Direction.TheVariants.{Columns, Rows}
 use Rattle.papergrid_layout.specs.Tables.{view_of}
 use Rattle.papergrid_layout.specs.ForProofs.Placing.{AreMarked}
-use Rattle.papergrid_layout.proofs.TableLemmas.{both-fit, large-along}
+use Rattle.papergrid_layout.proofs.TableLemmas.{both-fit}
 use Rattle.papergrid_layout.proofs.table.Table.from_sizes.Goals as goal
-
-pub returns-in_err-width : goal.returns-in_err-width
-returns-in_err-width c =
-    let table = view_of (record { config = c.args.config.now; widths = c.args.widths.items; heights = c.args.heights.items }) in
-    let p = err_from_is_err_and c.from_residual.result c.from_residual.ensures.1 in
-    rw (p.1, p.2) (large-along table Columns c.in_err-width.field-0.0 c.in_err-width.ensures)
-
-pub returns-in_err-height : goal.returns-in_err-height
-returns-in_err-height c =
-    let table = view_of (record { config = c.args.config.now; widths = c.args.widths.items; heights = c.args.heights.items }) in
-    let p = err_from_is_err_and c.from_residual-in_err-height.result c.from_residual-in_err-height.ensures.1 in
-    rw (p.1, p.2) (large-along table Rows c.in_err-height.field-0.0 c.in_err-height.ensures)
 
 pub spanning_cells-requires : goal.spanning_cells-requires
 spanning_cells-requires c =

@@ -8,9 +8,3 @@ pub returns-then-point-total : goal.returns-then-point-total
 returns-then-point-total c =
     let table = view_of c.args.self.now in
     none-in-total (track_size table c.args.direction) (track_line table c.args.direction) (track_count table c.args.direction) c.args.point (omega (arith, c.marks_along-total.ensures.total, c.if-point-total.true))
-
-pub returns : goal.returns
-returns c =
-    let table = view_of c.args.self.now in
-    c.track_at.ensures (track_size table c.args.direction) (track_line table c.args.direction) (track_count table c.args.direction) c.marks_along-total.ensures.marks
-    (omega (arith, c.marks_along-total.ensures.total, c.if-point-total.false))

@@ -1,4 +1,4 @@
-use Rattle.std.proofs.Common.{◌≡◌, ◌+◌, ◌-◌, ◌∙◌, length, refl, sym, zero-add, arith}
+use Rattle.std.proofs.Common.{◌+◌, ◌∙◌, refl, sym, zero-add, arith}
 use Rattle.std.specs.Int.{is_in_range}
 use Rattle.papergrid_text.proofs.Lanes.{counted_few, counted_here, counted_last, counted_past}
 use Rattle.papergrid_text.proofs.width.printable.count_by_two_loads.Goals as goal
@@ -20,8 +20,5 @@ overflow_add-result g c = grind (arith, counted_few)
 pub returns-then-is_printable_load-2 : goal.returns-then-is_printable_load-2
 returns-then-is_printable_load-2 g c =
     let bytes = c.args.bytes.now in
-    let last = length bytes - g.row.N in
-    let whole : length bytes ≡ last + g.row.N = omega (arith, c.requires.least) in
     let more = counted_past (is_in_range 0x20 0x7E) bytes 0 g.row.N g.row.N (omega (arith, c.requires.least)) (c.if-is_printable_load.ensures refl) (omega arith) (zero-add _) in
-    whole
-    ∙ counted_last (is_in_range 0x20 0x7E) bytes (0 + g.row.N) last g.row.N g.row.N (sym whole) (omega (arith, c.requires.most)) more (c.if-is_printable_load-2.ensures refl)
+    grind (arith, counted_last)

@@ -1,4 +1,4 @@
-use Rattle.std.proofs.Common.{◌≡◌, ℕ, ◌+◌, ◌-◌, ◌≤◌, Bool, List, length, get_or, take, drop, ap, arith}
+use Rattle.std.proofs.Common.{◌≡◌, ℕ, ◌+◌, ◌-◌, Bool, List, length, get_or, take, drop, ap, arith}
 use Rattle.std.specs.Prelude.{count_by}
 use Rattle.std.proofs.lemmas.List.{drop-take, get_or_default, take-take}
 use Rattle.std.proofs.lemmas.List.Sums.{sum_by-take-drop}
@@ -22,10 +22,6 @@ counted-part xs a m =
 counted-within : (drawn : List Bool) (counts : List ℕ) (d : Demand) → AreCountsBefore drawn counts → IsInTable (length drawn) d →
     get_or counts (end_of d) 0 ≡ get_or counts (d.start + 1) 0 + inner_lines (line_at drawn) d
 counted-within drawn counts d are inside =
-    let one : 1 ≤ d.span = inside.covers_one in
-    let ends : end_of d ≤ length drawn = inside.ends_within in
-    let last : get_or counts (end_of d) 0 ≡ count_by (λ x. x) (take (end_of d) drawn) = are.before (end_of d) ends in
-    let first : get_or counts (d.start + 1) 0 ≡ count_by (λ x. x) (take (d.start + 1) drawn) = are.before (d.start + 1) (omega arith) in
     let same : count_by (λ x. x) (take (end_of d) drawn) ≡ count_by (λ x. x) (take (d.start + 1 + (d.span - 1)) drawn) =
     ap (λ k. count_by (λ x. x) (take k drawn)) (let e : end_of d ≡ d.start + 1 + (d.span - 1) = omega arith in e) in
     let parts : count_by (λ x. x) (take (d.start + 1 + (d.span - 1)) drawn) ≡ count_by (λ x. x) (take (d.start + 1) drawn) + count_by (λ x. x) (take (d.span - 1) (drop (d.start + 1) drawn)) =

@@ -1,5 +1,0 @@
-use Rattle.std.proofs.Common.{refl}
-use Rattle.papergrid_layout.proofs.certificates.witness_along.Goals as goal
-
-pub returns : goal.returns
-returns g c = let told = c.in_ok-found.ensures in (told.0, told.1, told.2.asked refl)
